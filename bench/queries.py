@@ -1,10 +1,11 @@
 #!/usr/bin/env python3
 """Asks `druid_cluster serve` and ClickHouse the same queries over the same rows, both over HTTP on 127.0.0.1.
 
-    python3 bench/queries.py [--program PATH] [--seconds N]
+    python3 bench/queries.py [--program PATH] [--seconds N] [--threads N]
 
 One broker over one data node with 1,000,000 rows in ten segments of a day each: three dimensions of 10, 1,000 and 50,000
-values, two metrics. ClickHouse has them in a `MergeTree` by time, a part for each day, and works on one thread for each query.
+values, two metrics. ClickHouse has them in a `MergeTree` by time, a part for each day. Both work on so many threads for each query,
+one unless said otherwise.
 The answers are compared. Then for each query the median of five times, and the answers a second that four clients get, also as
 a multiple and a share of ClickHouse's; and how long the node took to stand. Nothing but the answers is checked.
 
@@ -35,7 +36,7 @@ CONFIG = """<yandex>
 """
 
 USERS = """<yandex>
-<profiles><default><max_threads>1</max_threads><log_queries>0</log_queries></default></profiles>
+<profiles><default><max_threads>{threads}</max_threads><log_queries>0</log_queries></default></profiles>
 <users><default><password></password><networks><ip>127.0.0.1</ip></networks><profile>default</profile><quota>default</quota></default></users>
 <quotas><default></default></quotas>
 </yandex>
@@ -91,12 +92,12 @@ def write_segments(folder):
 
 
 @contextlib.contextmanager
-def ours(program, folder):
+def ours(program, folder, threads):
     write_segments(os.path.join(folder, 'n0'))
     broker, node = free_ports(2)
     config = {'brokers': [{'address': f'127.0.0.1:{broker}', 'workers': WORKERS}], 'connections': 1_000_000, 'kept': 100, 'queries': [],
               'turns': 1, 'nodes': [{'address': f'127.0.0.1:{node}', 'folder': os.path.join(folder, 'n0'), 'loads': [], 'name': 'n0',
-                                     'workers': WORKERS}]}
+                                     'workers': WORKERS, 'threads': threads}]}
     path = os.path.join(folder, 'config.json')
     with open(path, 'w') as file:
         json.dump(config, file)
@@ -117,12 +118,12 @@ def tell(port, text, body=None):
 
 
 @contextlib.contextmanager
-def theirs(folder):
+def theirs(folder, threads):
     os.makedirs(os.path.join(folder, 'tmp'))
     port, tcp = free_ports(2)
     for name, text in (('config.xml', CONFIG), ('users.xml', USERS)):
         with open(os.path.join(folder, name), 'w') as file:
-            file.write(text.format(folder=folder, http=port, tcp=tcp))
+            file.write(text.format(folder=folder, http=port, tcp=tcp, threads=threads))
     with running(['clickhouse-server', f'--config-file={folder}/config.xml'], stdout=subprocess.DEVNULL, stderr=subprocess.DEVNULL):
         end = time.monotonic() + 60
         while ask(port, 'GET', '/ping', limit=1)[0] != 200:
@@ -199,11 +200,12 @@ def main():
     parser = parser_of(__doc__)
     parser.add_argument('--program', default=PROGRAM, help='the built program, that of this repository unless said otherwise')
     parser.add_argument('--seconds', type=int, default=5, help='how long four clients ask')
+    parser.add_argument('--threads', type=int, default=1, help='on how many threads a query may work')
     given = parser.parse_args()
     need_program(given.program)
     need('clickhouse-server')
-    with tempfile.TemporaryDirectory() as folder, ours(given.program, os.path.join(folder, 'ours')) as broker, \
-            theirs(os.path.join(folder, 'theirs')) as house:
+    with tempfile.TemporaryDirectory() as folder, ours(given.program, os.path.join(folder, 'ours'), given.threads) as broker, \
+            theirs(os.path.join(folder, 'theirs'), given.threads) as house:
         for name, asked, text in QUERIES:
             mine = broker, '/druid/v2/', json.dumps(asked)
             other = house, '/?', text

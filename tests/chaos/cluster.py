@@ -67,7 +67,7 @@ class Cluster:
 
     def write_config(self):
         plan, at = self.plan, self.place.servers
-        nodes = [{'address': at[it], 'folder': f'{self.folder}/{it}/folder', 'loads': [], 'name': it, 'watch': plan.watch, 'workers': 8}
+        nodes = [{'address': at[it], 'folder': f'{self.folder}/{it}/folder', 'loads': [], 'name': it, 'watch': plan.watch, 'workers': 8, 'threads': 3}
                  for it in plan.nodes]
         config = {'brokers': [{'address': at[it], 'workers': 8} for it in plan.brokers], 'every': plan.every, 'kept': plan.kept,
                   'network': True, 'nodes': nodes, 'patience': plan.patience, 'queries': [], 'turns': plan.turns}

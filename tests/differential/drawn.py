@@ -98,7 +98,7 @@ class Cluster:
             it = {'source': 'beside', 'start': START, 'end': START + HOUR, 'version': 'v1', 'part': part, 'core': 0, 'dims': [], 'mets': [], 'rows': []}
             with open(f'{folder}/0/{rules.identifier(it)}.seg', 'wb') as file:
                 file.write(rules.segment_file(it, False))
-        nodes = [{'address': f'127.0.0.1:{self.nodes[i]}', 'folder': f'{folder}/{i}', 'loads': [], 'name': f'n{i}', 'workers': 2,
+        nodes = [{'address': f'127.0.0.1:{self.nodes[i]}', 'folder': f'{folder}/{i}', 'loads': [], 'name': f'n{i}', 'workers': 2, 'threads': (1, 3, 16)[i],
                   'tombstones': [rules.chunk_of(it) for it in self.held[i] if 'tombstone' in it]} for i in range(3)]
         query = {'queryType': 'timeseries', 'dataSource': 'w', 'granularity': 'all', 'intervals': '2024-01-01/2024-01-02'}
         with open(f'{folder}/config.json', 'w') as file:

@@ -11,8 +11,8 @@ file; or where it had at any time more open files than docs/FORMATS.md lets it h
 that waits, beside those that it stands with; or more memory than it stood with and 32 MiB and 16 KiB and a stack for each front thread.
 
 Where a server has more slow clients than front threads they hold all of these all the time, and each connection that is taken ends the
-one that waits longest for its client. Then how late queries are, and how many were closed before they had come whole and were asked once
-more, is printed and not judged.
+one that waits longest for its client. Then how late queries are, how many were closed before they had come whole and were asked once
+more, and how many the broker answered as missing since the node had closed its exchange, is printed and not judged.
 """
 import json
 import os
@@ -82,10 +82,10 @@ class Slow:
 class Asking(threading.Thread):
     """A client that asks until it is told to end; what it saw."""
 
-    def __init__(self, cluster, wanted, over):
+    def __init__(self, cluster, wanted, over, crowded):
         super().__init__()
-        self.cluster, self.wanted, self.over = cluster, wanted, over
-        self.slowest, self.count, self.closed, self.faults = 0.0, 0, 0, []
+        self.cluster, self.wanted, self.over, self.crowded = cluster, wanted, over, crowded
+        self.slowest, self.count, self.closed, self.missing, self.faults = 0.0, 0, 0, 0, []
 
     def run(self):
         while not self.over.is_set():
@@ -99,19 +99,26 @@ class Asking(threading.Thread):
                 found = repr(fault)
             self.slowest = max(self.slowest, (time.monotonic() - start) / 2)
             self.count += 1
-            if found != self.wanted:
+            if self.crowded and is_missing(found):
+                self.missing += 1
+            elif found != self.wanted:
                 self.faults.append(str(found)[:200])
                 return
+
+
+def is_missing(found):
+    """Whether the broker lists the node's segment as missing, and the node answers."""
+    return isinstance(found, tuple) and found[0][0] == 503 and b'SegmentsMissing' in found[0][1] and found[1][0] == 200
 
 
 def answers(cluster):
     return exchange(cluster.broker, 'POST', QUERY, QUERY_TEXT, 20), exchange(cluster.nodes[0], 'GET', '/status/health', b'', 20)
 
 
-def ask_for(cluster, wanted, seconds, each=lambda: None):
-    """Four clients ask for so long: the slowest query, how many there were, how many were closed, and what was wrong."""
+def ask_for(cluster, wanted, seconds, each=lambda: None, crowded=False):
+    """Four clients ask for so long: the slowest query, how many there were, how many were closed, or missing, and what was wrong."""
     over = threading.Event()
-    clients = [Asking(cluster, wanted, over) for _ in range(ASKING)]
+    clients = [Asking(cluster, wanted, over, crowded) for _ in range(ASKING)]
     for it in clients:
         it.start()
     end = time.monotonic() + seconds
@@ -122,7 +129,7 @@ def ask_for(cluster, wanted, seconds, each=lambda: None):
     for it in clients:
         it.join()
     return (max(it.slowest for it in clients), sum(it.count for it in clients), sum(it.closed for it in clients),
-            [fault for it in clients for fault in it.faults])
+            sum(it.missing for it in clients), [fault for it in clients for fault in it.faults])
 
 
 class Greatest:
@@ -141,7 +148,7 @@ def judged(cluster, seconds, clients, front):
         wanted = answers(cluster)
     except (OSError, IndexError, ValueError) as fault:
         return [f'no answer at the start, before any slow client: {fault!r}'], 'nothing'
-    alone, _, _, wrong = ask_for(cluster, wanted, min(5, seconds))
+    alone, _, _, _, wrong = ask_for(cluster, wanted, min(5, seconds))
     stood = cluster.uses()
     greatest = Greatest(cluster)
     slow = [Slow(port, clients // 2) for port in (cluster.broker, cluster.nodes[0])]
@@ -151,9 +158,10 @@ def judged(cluster, seconds, clients, front):
             it.turn()
         greatest.look()
 
-    warm = ask_for(cluster, wanted, seconds / 10, each)
+    crowded = clients // 2 > front
+    warm = ask_for(cluster, wanted, seconds / 10, each, crowded)
     begun = cluster.uses()
-    late, count, closed, faults = ask_for(cluster, wanted, seconds, each)
+    late, count, closed, missing, faults = ask_for(cluster, wanted, seconds, each, crowded)
     for it in slow:
         it.end()
     ended = cluster.uses()
@@ -163,11 +171,11 @@ def judged(cluster, seconds, clients, front):
         time.sleep(1)
         ended = cluster.uses()
     most, threads = greatest.uses, 2 * front
-    wrong += warm[3] + faults
-    late, closed = max(late, warm[0]), closed + warm[2]
-    if clients // 2 <= front and late > max(2 * alone, FLOOR):
+    wrong += warm[4] + faults
+    late, closed, missing = max(late, warm[0]), closed + warm[2], missing + warm[3]
+    if not crowded and late > max(2 * alone, FLOOR):
         wrong.append(f'a query took {late:.2f} s, and {alone:.2f} s alone')
-    if clients // 2 <= front and closed:
+    if not crowded and closed:
         wrong.append(f'{closed} queries were closed without an answer')
     if ended[1] != begun[1] or ended[2] > stood[2] + SPARE:
         wrong.append(f'{begun[1]} and then {ended[1]} threads, {stood[2]} and then {ended[2]} open files')
@@ -175,7 +183,7 @@ def judged(cluster, seconds, clients, front):
         wrong.append(f'{most[2]} open files, and {stood[2]} at the start')
     if most[0] > stood[0] + threads * THREAD_KIB:
         wrong.append(f'{most[0]} KiB, and {stood[0]} at the start')
-    return wrong, f'{count} queries, {alone:.3f} s the slowest alone and {late:.3f} s beside, {closed} closed and asked again; {most[1]} threads, {most[2]} open files, {most[0]} KiB at most'
+    return wrong, f'{count} queries, {alone:.3f} s the slowest alone and {late:.3f} s beside, {closed} closed and asked again, {missing} missing; {most[1]} threads, {most[2]} open files, {most[0]} KiB at most'
 
 
 def main():

@@ -18,6 +18,7 @@ NO_ALLOCATOR = 'takes no allocator and owns none'
 BY_CALLER = 'its condition holds only within the call that makes it: '
 NEVER = 'allocates nothing, and its contract gives no fault of memory'
 WITHIN = 'all that it allocates is allocated within: '
+COPIES = 'copies lists of descriptors as Assembly::take does, which is called, and changes nothing'
 DEVICE = 'reaches the system, whose own faults come first; by tests with a device that fails'
 BY_REPLAY = 'by replay.py, over the built program'
 START = 'starts threads and sockets: memory is taken from what is served (tests/hostile/memory.py), and at its start by no test'
@@ -38,9 +39,12 @@ LEFT_OUT = {
     'druid_health::Health::note': NO_ALLOCATOR,
     'druid_health::Health::note_cut': NO_ALLOCATOR,
     'druid_health::MonitoredLink::exchange': WITHIN + 'MemoryLink::exchange',
+    'druid_inventory::Assembly::clone': COPIES,
+    'druid_link::TcpLink::exchange': DEVICE,
     'druid_link::receive_some': WITHIN + 'TcpLink::exchange',
     'druid_link::send_all': NO_ALLOCATOR,
     'druid_node::DataNode::load_identified': WITHIN + 'DataNode::load_file',
+    'druid_pages::Assembly::clone': COPIES,
     'druid_pages::Assembly::take': WITHIN + 'inventory::Assembly::take',
     'druid_program::run': BY_REPLAY,
     'druid_program::serve_config': START,
@@ -57,6 +61,12 @@ LEFT_OUT = {
     'druid_shard_text::DescriptorRef::to_owned_in': WITHIN + 'read_descriptor, reply_of',
     'druid_shard_text::SharedTexts::with_capacity': WITHIN + 'reply_of',
     'druid_shard_text::shard_value': WITHIN + 'descriptor_value',
+    'druid_store::DiskFolder::list': DEVICE,
+    'druid_store::DiskFolder::read': DEVICE,
+    'druid_store::DiskFolder::remove': DEVICE,
+    'druid_store::DiskFolder::rename': DEVICE,
+    'druid_store::DiskFolder::sync': DEVICE,
+    'druid_store::DiskFolder::write': DEVICE,
     'druid_timeline::Holding::add_absent': WITHIN + 'Inventory::apply',
     'druid_timeline::Holding::into_timeline': WITHIN + 'Inventory::apply',
     'druid_timeline::Holding::of': WITHIN + 'Inventory::apply',
@@ -66,18 +76,11 @@ LEFT_OUT = {
     'druid_timeline::Transaction::add_absent': WITHIN + 'Transaction::add',
     'druid_timeline::Transaction::remove_present': WITHIN + 'Transaction::remove',
     'druid_wire::Response::into_parts': WITHIN + 'NodeState::respond',
+    'druid_wire::refuse_request': NO_ALLOCATOR,
     'druid_wire::response_of': NO_ALLOCATOR,
+    'druid_wire::send_response': NO_ALLOCATOR,
     'druid_wire::write_request': NO_ALLOCATOR,
     'druid_wire::write_response': NO_ALLOCATOR,
-    'druid_wire::send_response': NO_ALLOCATOR,
-    'druid_wire::refuse_request': NO_ALLOCATOR,
-    'druid_link::TcpLink::exchange': DEVICE,
-    'druid_store::DiskFolder::list': DEVICE,
-    'druid_store::DiskFolder::read': DEVICE,
-    'druid_store::DiskFolder::write': DEVICE,
-    'druid_store::DiskFolder::sync': DEVICE,
-    'druid_store::DiskFolder::rename': DEVICE,
-    'druid_store::DiskFolder::remove': DEVICE,
 }
 
 

@@ -1,4 +1,5 @@
-//! Pieces of segments that a node is asked for, and their JSON.
+//! Pieces of segments that a node is asked for, and their JSON. A node may be asked for as many as
+//! 16 MiB hold, so those that overlap are found by sorting, which takes memory.
 ghost use Rattle.std.specs.Prelude.{◌≡◌, ◌↔◌, List, length, Some, IfOk, IfErr, IfSome, IsSome, IsTrue, is_some, option_map, refl};
 ghost use Rattle.std.specs.List.{list_all, AllAdjacentBelow};
 ghost use Rattle.serde_json.specs.View.{view, items_view};
@@ -250,6 +251,10 @@ fn pieces_of<'a>(
 }
 
 /// Whether no two pieces of one segment overlap. They are put in order, where those that overlap stand side by side.
+///
+/// # Errors
+///
+/// Out of memory.
 pub fn are_apart(alloc: Global, source: &str, values: &[Value]) -> Result<bool, AllocError>
     requires { IsSome (each_of (inside_at source.now) (items_view values.now)) }
     ensures { IfOk result (λ apart. (all : List Asked) → each_of (inside_at source.now) (items_view values.now) ≡ Some all
@@ -261,6 +266,10 @@ pub fn are_apart(alloc: Global, source: &str, values: &[Value]) -> Result<bool, 
 }
 
 /// The pieces, where each lies inside its segment.
+///
+/// # Errors
+///
+/// Out of memory.
 #[tactic(auto, using(crate::proofs::PieceLemmas::inside_source))]
 pub fn asked_list(alloc: Global, source: &Name, values: &[Value]) -> Result<Vec<Asked>, AllocError>
     requires { IsSome (each_of (inside_at source.now) (items_view values.now)) }
@@ -306,7 +315,11 @@ fn segments_in(value: &Value) -> Option<&[Value]>
     }
 }
 
-/// The list of an object of the type `segments`, where it has a member and each has the shape of a piece.
+/// The list of an object of the type `segments`.
+///
+/// # Errors
+///
+/// None where the value is none, the list has no member, or one has another shape than a piece.
 #[tactic(auto, unfolding(druid_query::specs::Asked::asked_items))]
 pub fn asked_items(value: &Value) -> Option<&[Value]>
     ensures { option_map (λ vs. items_view vs.now) result ≡ asked_items (view value.now) }
@@ -315,6 +328,10 @@ pub fn asked_items(value: &Value) -> Option<&[Value]>
 }
 
 /// The JSON of a piece: `chunk`, the interval of the segment; `itvl`, the piece; `part` and `ver`. The data source is left out.
+///
+/// # Errors
+///
+/// Out of memory.
 #[tactic(auto, unfolding(druid_query::specs::Asked::asked_data))]
 pub fn asked_value(alloc: Global, asked: &Asked) -> Result<Value, AllocError>
     ensures { IfOk result (λ v. view v ≡ asked_data asked.now) }
@@ -332,6 +349,10 @@ pub fn asked_value(alloc: Global, asked: &Asked) -> Result<Value, AllocError>
 }
 
 /// The JSON of each piece, in order.
+///
+/// # Errors
+///
+/// Out of memory.
 pub fn asked_values(alloc: Global, asked: &[Asked]) -> Result<Vec<Value>, AllocError>
     ensures { IfOk result (λ vs. items_view vs.items ≡ pieces_data asked.now) }
 {
@@ -349,8 +370,13 @@ pub fn is_asked(source: &Name, value: &Value) -> bool
     asked_of(source.as_str(), value).is_some()
 }
 
-/// Reads a piece of a segment of that source: `chunk` and `itvl` texts of intervals, `part` a whole number of 0 to 65,535,
-/// and `ver` a version. None where the value is no such object. Whether the piece lies inside the segment is not judged.
+/// Reads a piece of a segment of that source: `chunk` and `itvl` texts of intervals, `part` a whole
+/// number of 0 to 65,535, and `ver` a version. Whether the piece lies inside the segment is not
+/// judged.
+///
+/// # Errors
+///
+/// None where the value is no such object. Out of memory only of a piece.
 #[tactic(auto, using(crate::proofs::PieceLemmas::asked_source))]
 pub fn read_asked(alloc: Global, source: &Name, value: &Value) -> Result<Option<Asked>, AllocError>
     ensures read { IfOk result (λ asked. asked ≡ asked_at source.now (view value.now)) }

@@ -2,7 +2,11 @@ ghost use Rattle.std.specs.Prelude.{◌≡◌, IfOk, option_map, string_bytes};
 
 use std::alloc::{AllocError, Global};
 
-/// A copy of a text, where there is one; refused only where memory is.
+/// A copy of a text, where there is one.
+///
+/// # Errors
+///
+/// Out of memory.
 pub fn copy_text(alloc: Global, text: Option<&str>) -> Result<Option<String>, AllocError>
     ensures { IfOk result (λ copy. option_map string_bytes copy ≡ option_map (λ text. text.now) text.entry) }
 {

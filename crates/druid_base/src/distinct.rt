@@ -1,4 +1,5 @@
-//! Texts of which none stands twice.
+//! Texts of which none stands twice, over a trait: they are borrowed from names, from a schema or
+//! from JSON that is not read yet, and nothing is copied to compare them.
 ghost use Rattle.std.specs.Prelude.{◌≡◌, ◌↔◌, ◌+◌, ◌<◌, true, IsTrue, ℕ, List, [], IfSome, is_none, length, drop, slice_index_or};
 ghost use Rattle.std.specs.List.{list_any};
 ghost use Rattle.std.specs.Str.{bytes_eq};
@@ -33,8 +34,12 @@ fn stands_later<T: TextList>(texts: &T, place: usize, count: usize) -> bool
     false
 }
 
-/// The place of a text that stands at a later one too; None where no text stands twice. Compares each two of them, and does
-/// not allocate.
+/// The place of a text that stands at a later one too. Compares each two of them, and does not
+/// allocate.
+///
+/// # Errors
+///
+/// None where no text stands twice.
 pub fn doubled_text<T: TextList>(texts: &T) -> Option<usize>
     ensures test { is_none result ≡ are_distinct (T.texts texts.now) }
     ensures doubled { IfSome result (λ place.

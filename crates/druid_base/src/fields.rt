@@ -7,14 +7,22 @@ ghost use Rattle.druid_base.specs.Fields.{text_at, number_at, limited_at, list_a
 
 use serde_json::Value;
 
-/// The text at a key of an object; None where there is no such key or it holds no text.
+/// The text at a key of an object.
+///
+/// # Errors
+///
+/// None where there is no such key or it holds no text.
 pub fn text_field<'a>(value: &'a Value, key: &str) -> Option<&'a str>
     ensures { option_map (λ s. s.now) result ≡ text_at key.now (view value.now) }
 {
     value.get(key).and_then(Value::as_str)
 }
 
-/// The whole number at a key of an object, below 2^64; None where there is none.
+/// The whole number at a key of an object, below 2^64.
+///
+/// # Errors
+///
+/// None where there is no such number.
 pub fn number_field(value: &Value, key: &str) -> Option<u64>
     ensures { result ≡ number_at key.now (view value.now) }
 {
@@ -22,6 +30,10 @@ pub fn number_field(value: &Value, key: &str) -> Option<u64>
 }
 
 /// The whole number at a key of an object, where it is at most the limit.
+///
+/// # Errors
+///
+/// None where there is no such number.
 pub fn limited_field(value: &Value, key: &str, limit: u16) -> Option<u16>
     ensures { result ≡ limited_at limit key.now (view value.now) }
 {
@@ -33,7 +45,11 @@ pub fn limited_field(value: &Value, key: &str, limit: u16) -> Option<u16>
     }
 }
 
-/// The values of the list at a key of an object; None where there is no such key or it holds no list.
+/// The values of the list at a key of an object.
+///
+/// # Errors
+///
+/// None where there is no such key or it holds no list.
 pub fn list_field<'a>(value: &'a Value, key: &str) -> Option<&'a [Value]>
     ensures { option_map (λ vs. items_view vs.now) result ≡ list_at key.now (view value.now) }
 {
@@ -48,7 +64,11 @@ pub fn are_texts(values: &[Value]) -> bool
     values.iter().all(|value| value.is_string())
 }
 
-/// The text that a value is, or null, which is `Some(None)`; None where it is neither.
+/// The text that a value is, or null, which is `Some(None)`.
+///
+/// # Errors
+///
+/// None where it is neither.
 #[tactic(auto, unfolding(crate::specs::Fields::text_or_null))]
 pub fn text_or_null(value: &Value) -> Option<Option<&str>>
     ensures { option_map (option_map (λ s. s.now)) result ≡ text_or_null (view value.now) }

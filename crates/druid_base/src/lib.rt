@@ -1,5 +1,5 @@
-//! What several crates have in common: JSON out of bytes, fields of JSON objects, copies of texts, numbers in digits, and texts of which none stands
-//! twice.
+//! What several crates have in common: JSON out of bytes, fields of JSON objects, copies of texts,
+//! numbers in digits, and texts of which none stands twice.
 #![tactic(auto)]
 
 mod copying;

@@ -1,4 +1,5 @@
-//! Numbers in decimal digits.
+//! Numbers in decimal digits: of partitions, asks, places, addresses and incarnations. A length of
+//! HTTP may begin with zeros, so `druid_wire` reads its own.
 ghost use Rattle.std.specs.Prelude.{◌≡◌};
 ghost use Rattle.druid_base.specs.Numbers.{number_at};
 
@@ -19,7 +20,12 @@ fn number_in(digits: &str) -> Option<u64>
     Some(number)
 }
 
-/// The number below 2^64 that prints as these bytes: decimal digits, none of them a leading zero. Does not allocate.
+/// The number below 2^64 that prints as these bytes: decimal digits, none of them a leading zero.
+/// Does not allocate.
+///
+/// # Errors
+///
+/// None where no number does.
 #[tactic(auto, using(crate::proofs::NumberLemmas::text_facts))]
 pub fn number_of(digits: &[u8]) -> Option<u64>
     ensures { result ≡ number_at digits.now }

@@ -9,8 +9,12 @@ use serde_json::Value;
 use std::alloc::Global;
 use std::str;
 
-/// The value of bytes that are JSON in UTF-8; it nests at most 127 deep. `NotJson` where they are none, and `Memory` of bytes in
-/// UTF-8 alone: parsing allocates as it goes, so it may come before what is no JSON further on.
+/// The value of bytes that are JSON in UTF-8; it nests at most 127 deep.
+///
+/// # Errors
+///
+/// `NotJson` of bytes that are none. `Memory`, of bytes in UTF-8 alone, may come in its place:
+/// parsing allocates as it goes.
 pub fn parse_json(alloc: Global, bytes: &[u8]) -> Result<Value, JsonFault>
     ensures parsed { IsParsed bytes.now result }
     ensures nests { IfOk result (λ v. depth (view v) ≤ max_depth) }

@@ -24,7 +24,7 @@ fn copied(rt: &impl Abort, alloc: Global, text: Option<&str>) -> String {
 }
 
 #[test]
-fn ample_memory(rt: HostRuntime) {
+fn parses_and_copies(rt: HostRuntime) {
     assert_rows(&rt, rt.alloc(), PARSED, parsed);
     assert_reported(&rt, "x", copied(&rt, rt.alloc(), Some("x")), "x");
     assert_reported(&rt, "null", copied(&rt, rt.alloc(), None), "null");

@@ -118,7 +118,7 @@ fn set_after(rt: &impl Abort, alloc: Global, text: &str) -> String {
 }
 
 #[test]
-fn ample_memory(rt: HostRuntime) {
+fn changes_that_are_recorded(rt: HostRuntime) {
     let reported = answered(&rt, rt.alloc(), &Ask::Whole);
     assert_reported(&rt, "the whole", reported, "snapshot 1 5 1 2 3");
     let mark = five_changes(&rt, rt.alloc()).mark();

@@ -64,7 +64,7 @@ fn is_emptied(rt: &impl Abort, alloc: Global, case: &str) -> bool {
 }
 
 #[test]
-fn ample_memory(rt: HostRuntime) {
+fn chunks_that_overlap(rt: HostRuntime) {
     assert_rows(&rt, rt.alloc(), OVERLAPS, overlaps);
     for line in OVERLAPS.lines() {
         assert!(rt; is_emptied(&rt, rt.alloc(), line), "{line}");

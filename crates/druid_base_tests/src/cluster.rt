@@ -154,7 +154,7 @@ fn is_empty_snapshot(reply: &Reply) -> bool {
 }
 
 #[test]
-fn ample_memory(rt: HostRuntime) {
+fn a_reply_of_the_script(rt: HostRuntime) {
     let mut one = String::new(rt.alloc());
     push_row(&rt, &mut one, "@at1;@end;");
     let reply = read_reply(rt.alloc(), one.as_bytes()).expect(&rt, "no reply");

@@ -259,11 +259,13 @@ fn bit(partition: u16) -> u64 {
     1_u64.wrapping_shl(partition as u32)
 }
 
-// The drawn partitions that are there, as bits, and how many others.
+// The drawn partitions that are there, as bits; and of the others how many there are, and the greatest. These came in order from
+// `BALLAST` on, and no two are the same, so the two numbers say which they are.
 #[derive(Clone, Copy, PartialEq)]
 struct Held {
     bits: u64,
     ballast: u64,
+    greatest: u64,
 }
 
 // What a node served at a mark, by a plain replay; None where it did not come to it.
@@ -285,8 +287,16 @@ fn replayed(plain: &Plain, node: NodeNo, mark: Mark) -> Option<Held> {
             };
         }
     }
+    let greatest = match ballast {
+        0 => 0,
+        _ => ballast.saturating_add(u64::from(BALLAST)).saturating_sub(1),
+    };
     if left == 0 {
-        Some(Held { bits: set, ballast })
+        Some(Held {
+            bits: set,
+            ballast,
+            greatest,
+        })
     } else {
         None
     }
@@ -294,17 +304,21 @@ fn replayed(plain: &Plain, node: NodeNo, mark: Mark) -> Option<Held> {
 
 // The partitions of a node that are known.
 fn partitions_of(rt: &impl Abort, inventory: &Inventory, node: NodeNo) -> Held {
-    let mut bits = 0_u64;
-    let mut ballast = 0_u64;
+    let (mut bits, mut ballast, mut greatest) = (0_u64, 0_u64, 0_u64);
     for segment in inventory.segments(node).expect(rt, "no node") {
         let partition = segment.id().partition();
         if partition < BALLAST {
             bits |= bit(partition);
         } else {
             ballast = ballast.wrapping_add(1);
+            greatest = greatest.max(u64::from(partition));
         }
     }
-    Held { bits, ballast }
+    Held {
+        bits,
+        ballast,
+        greatest,
+    }
 }
 
 fn mark_of(rt: &impl Abort, inventory: &Inventory, node: NodeNo) -> Mark {

@@ -23,8 +23,10 @@ const TICKS: u64 = 24;
 // In the order of their bytes, so that the later one is the one that is shown.
 const VERSIONS: &[&str] = &["v1", "v10", "v2", "v9"];
 
-// More is held never, so that the plain computation stays quick.
-const MOST_HELD: usize = 40;
+// No more is held, so that the plain computation stays quick: in each of the tables, and in one more, of many chunks.
+const FEW_HELD: u64 = 40;
+
+const MANY_HELD: u64 = 400;
 
 // A partition of a chunk that a node serves, and how many core partitions it names; or a tombstone.
 #[derive(Clone, Copy, PartialEq, Eq, Drop)]
@@ -409,7 +411,7 @@ fn draw_source(draws: &mut Draws) -> &'static str {
     }
 }
 
-// Adds a drawn segment, where no more than so much is held; L2 of another source, and L1 where the node serves it.
+// Adds a drawn segment; L2 of another source, and L1 where the node serves it.
 fn add(
     rt: &impl Abort,
     alloc: Global,
@@ -420,9 +422,6 @@ fn add(
 ) {
     let served = draw_near(draws, held);
     let source = draw_source(draws);
-    if held.len() >= MOST_HELD {
-        return;
-    }
     let is_there = held.iter().any(|it| is_one_place(it, &served));
     let descriptor = table.descriptor(rt, alloc, source, served);
     let mut meter = Meter::new();
@@ -446,10 +445,13 @@ fn remove(
     timeline: &mut Timeline,
     held: &mut Vec<Served>,
     table: &Table,
-) {
+    most: u64,
+)
+    requires { 0 < most }
+{
     let drawn = draw_served(draws);
     let source = draw_source(draws);
-    let place = draws.below(40) as usize;
+    let place = draws.below(most) as usize;
     let served = held.get(place).copied().unwrap_or(drawn);
     let is_there = source == "wiki" && held.iter().any(|it| is_one_place(it, &served));
     let descriptor = table.descriptor(rt, alloc, source, served);
@@ -472,17 +474,27 @@ fn swept(rt: &impl Abort, timeline: &Timeline) -> Timeline {
         .expect(rt, "memory")
 }
 
-// Makes drawn edits, and compares after each, and after some what a sweep gives.
-fn edit(rt: &impl Abort, alloc: Global, seed: u64) {
+// Makes drawn edits, with no more than so much held, and compares after each, and after some what a sweep gives.
+fn edit(rt: &impl Abort, alloc: Global, seed: u64, most: u64)
+    requires { 0 < most }
+{
     let mut draws = Draws::new(seed);
     let table = Table::new(rt, alloc, &mut draws);
     let mut timeline = Timeline::new(alloc, name(rt, alloc, "wiki"));
     let mut held = Vec::new(alloc);
     for number in 0..EDITS {
-        if draws.below(2) == 0 {
+        if (held.len() as u64) < most && draws.below(2) == 0 {
             add(rt, alloc, &mut draws, &mut timeline, &mut held, &table);
         } else {
-            remove(rt, alloc, &mut draws, &mut timeline, &mut held, &table);
+            remove(
+                rt,
+                alloc,
+                &mut draws,
+                &mut timeline,
+                &mut held,
+                &table,
+                most,
+            );
         }
         let window = draw_ticks(&mut draws);
         assert_same(rt, alloc, &timeline, &held, &table, window);
@@ -496,6 +508,7 @@ fn edit(rt: &impl Abort, alloc: Global, seed: u64) {
 #[test]
 fn drawn_edits(rt: HostRuntime) {
     for seed in 0..TABLES {
-        edit(&rt, rt.alloc(), seed);
+        edit(&rt, rt.alloc(), seed, FEW_HELD);
     }
+    edit(&rt, rt.alloc(), TABLES, MANY_HELD);
 }

@@ -276,7 +276,7 @@ fn is_its_copy(rt: &impl Abort, inventory: &Inventory) -> bool {
 }
 
 #[test]
-fn ample_memory(rt: HostRuntime) {
+fn copies_sources_and_entries(rt: HostRuntime) {
     let inventory = broker(&rt, rt.alloc(), "1 5 0 1,");
     assert!(rt; is_its_copy(&rt, &inventory));
     assert!(rt; inventory.sources().expect(&rt, "memory").len() == 1);

@@ -26,7 +26,7 @@ fn one_member(rt: &impl Abort, alloc: Global) -> Vec<u16> {
 }
 
 #[test]
-fn ample_memory(rt: HostRuntime) {
+fn partitions_of_members(rt: HostRuntime) {
     let partitions = one_member(&rt, rt.alloc());
     assert!(rt; partitions.as_slice() == [3].as_slice());
 }

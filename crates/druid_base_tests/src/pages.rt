@@ -105,7 +105,7 @@ fn first_of(rt: &impl Abort, alloc: Global, set: &[Descriptor], page: u16) -> u1
 }
 
 #[test]
-fn ample_memory(rt: HostRuntime) {
+fn pages_that_are_assembled(rt: HostRuntime) {
     assert_rows(&rt, rt.alloc(), ASSEMBLED, assembled);
 }
 

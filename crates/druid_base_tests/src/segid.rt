@@ -123,7 +123,7 @@ fn versions(rt: HostRuntime) {
 }
 
 #[test]
-fn ample_memory(rt: HostRuntime) {
+fn identifiers(rt: HostRuntime) {
     assert_rows(&rt, rt.alloc(), IDENTIFIERS, text_of);
     assert_rows(&rt, rt.alloc(), READ, read_reported);
     let version = version_of_group(&rt, rt.alloc(), "v1 3");

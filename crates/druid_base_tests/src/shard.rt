@@ -58,7 +58,7 @@ fn written_again(rt: &impl Abort, alloc: Global, text: &str) -> String {
 }
 
 #[test]
-fn ample_memory(rt: HostRuntime) {
+fn descriptors_written_again(rt: HostRuntime) {
     for text in [WRITTEN, TOMBSTONE] {
         let written = written_again(&rt, rt.alloc(), text);
         assert_reported(&rt, "it", written, text);

@@ -14,17 +14,19 @@ use std::process::Abort;
 // Sizes around which code may change its way.
 const SIZES: [u16; 8] = [0, 1, 2, 3, 5, 17, 65, 1_000];
 
-// Asserts that something holds at each of the sizes, and at a limit.
+// Asserts that something holds at each of the sizes between a least one and a limit, and at the limit.
 fn assert_sizes<R: Abort, F: Fn(&R, Global, u16) -> bool>(
     rt: &R,
     alloc: Global,
+    least: u16,
     limit: u16,
     holds: F,
 )
     requires { F.IsAlwaysCallable holds }
 {
     for size in SIZES {
-        assert!(rt; limit < size || holds(rt, alloc, size), "{size}");
+        let is_beyond = size < least || limit < size;
+        assert!(rt; is_beyond || holds(rt, alloc, size), "{size}");
     }
     assert!(rt; holds(rt, alloc, limit), "{limit}");
 }
@@ -137,9 +139,7 @@ fn takes_turns(rt: &impl Abort, alloc: Global, count: u16) -> bool {
 
 // Whether a node that keeps so many changes answers with as many.
 fn answers_kept(rt: &impl Abort, alloc: Global, count: u16) -> bool {
-    if count == 0 || 1_000 < count {
-        return true;
-    }
+    assert!(rt; 1 <= count && count <= 1_000);
     let mut history = History::new(alloc, 3, count as usize).expect(rt, "memory");
     for change in loads(rt, alloc, count) {
         history.record(change).expect(rt, "a refused load");
@@ -199,9 +199,6 @@ fn finds_pieces(rt: &impl Abort, alloc: Global, count: u16) -> bool {
 
 // Whether there is a broker of so many nodes, and an inventory is joined with itself.
 fn knows_nodes(rt: &impl Abort, alloc: Global, count: u16) -> bool {
-    if count == 0 || 64 < count {
-        return count != 64;
-    }
     let inventory = fresh(rt, alloc, count);
     let joined = inventory.join(&inventory).expect(rt, "a join");
     joined.node_count() == count && joined == inventory
@@ -209,9 +206,7 @@ fn knows_nodes(rt: &impl Abort, alloc: Global, count: u16) -> bool {
 
 // Whether a simulation of so many nodes and brokers runs: each node starts again, and each broker asks it.
 fn simulates(rt: &impl Abort, alloc: Global, count: u16) -> bool {
-    if count == 0 || 64 < count {
-        return count != 64;
-    }
+    assert!(rt; 1 <= count && count <= 64);
     let servers = count as usize;
     let mut sim = Sim::new(alloc, servers, servers, 1_000).expect(rt, "memory");
     for node in 0..count {
@@ -226,14 +221,14 @@ fn simulates(rt: &impl Abort, alloc: Global, count: u16) -> bool {
 }
 
 #[test]
-fn ample_memory(rt: HostRuntime) {
-    assert_sizes(&rt, rt.alloc(), 1_000, follows_restarts);
-    assert_sizes(&rt, rt.alloc(), 1_000, takes_delta);
-    assert_sizes(&rt, rt.alloc(), 1_000, takes_turns);
-    assert_sizes(&rt, rt.alloc(), 1_000, answers_kept);
-    assert_sizes(&rt, rt.alloc(), 1_000, finds_pieces);
-    assert_sizes(&rt, rt.alloc(), 64, knows_nodes);
-    assert_sizes(&rt, rt.alloc(), 64, simulates);
+fn calls_succeed_with_memory(rt: HostRuntime) {
+    assert_sizes(&rt, rt.alloc(), 0, 1_000, follows_restarts);
+    assert_sizes(&rt, rt.alloc(), 0, 1_000, takes_delta);
+    assert_sizes(&rt, rt.alloc(), 0, 1_000, takes_turns);
+    assert_sizes(&rt, rt.alloc(), 1, 1_000, answers_kept);
+    assert_sizes(&rt, rt.alloc(), 0, 1_000, finds_pieces);
+    assert_sizes(&rt, rt.alloc(), 1, 64, knows_nodes);
+    assert_sizes(&rt, rt.alloc(), 1, 64, simulates);
 }
 
 // A text of so many letters.

@@ -71,7 +71,7 @@ fn ask_reported(rt: &impl Abort, alloc: Global, query: &str) -> String {
 }
 
 #[test]
-fn ample_memory(rt: HostRuntime) {
+fn replies_and_asks(rt: HostRuntime) {
     assert_rows(&rt, rt.alloc(), REPLIES, reply_reported);
     assert_rows(&rt, rt.alloc(), ASKS, ask_reported);
 }

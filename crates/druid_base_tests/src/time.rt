@@ -169,6 +169,6 @@ fn intervals(rt: HostRuntime) {
 }
 
 #[test]
-fn ample_memory(rt: HostRuntime) {
+fn sets_of_intervals(rt: HostRuntime) {
     assert_rows(&rt, rt.alloc(), SETS, parts);
 }

@@ -217,7 +217,7 @@ fn answer(rt: &impl Abort, alloc: Global, case: &str) -> String {
 }
 
 #[test]
-fn ample_memory(rt: HostRuntime) {
+fn visible_pieces(rt: HostRuntime) {
     assert_rows(&rt, rt.alloc(), CASES, answer);
 }
 

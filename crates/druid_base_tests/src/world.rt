@@ -207,7 +207,7 @@ fn refusals(rt: HostRuntime) {
 
 // Each call that may answer out of memory is made, and its answer is another.
 #[test]
-fn ample_memory(rt: HostRuntime) {
+fn calls_succeed_with_memory(rt: HostRuntime) {
     let mut sim = new_sim(&rt, rt.alloc());
     assert_reported(&rt, "broker 0", known(&rt, rt.alloc(), &sim, 0), "0 0");
     assert_answers(&rt, rt.alloc(), &mut sim, EACH);

@@ -5,3 +5,4 @@ pub mod Borrowed
 pub mod Views
 -- words of private contracts
 pub mod Rows
+pub mod Questions

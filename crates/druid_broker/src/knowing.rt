@@ -2,18 +2,15 @@
 ghost use Rattle.std.specs.Prelude.{◌≡◌, ◌++◌, [], IfOk, OnOk, codes, string_bytes};
 ghost use Rattle.json.specs.Print.{print};
 ghost use Rattle.serde_json.specs.Written.{compact_text};
-ghost use Rattle.druid_base.specs.Numbers.{number_at};
-ghost use Rattle.druid_sync.specs.Asks.{ask_at};
 ghost use Rattle.druid_sync.specs.Written.{reply_text};
 ghost use Rattle.druid_wire.specs.Served.{Tells};
 ghost use Rattle.druid_partial_text.specs.Tokens.{tokens_of};
-ghost use Rattle.druid_broker.specs.Routes.{names_data, AnswersSources, is_loaded, loaded_text, OrOutOfMemory, AnswersNode, AnswersNumber, AnswersEntry};
+ghost use Rattle.druid_broker.specs.Routes.{names_data, AnswersSources, is_loaded, loaded_text, OrOutOfMemory, AnswersNode};
 
-use druid_base::number_of;
 use druid_inventory::{Inventory, InventoryFault};
 use druid_segid::Name;
 use druid_shard::{Ask, NodeNo, Reply};
-use druid_sync::{read_ask, reply_text};
+use druid_sync::reply_text;
 use druid_wire::Response;
 use http::StatusCode;
 use json::Writer;
@@ -108,7 +105,7 @@ fn tell_reply(alloc: Global, reply: &Reply) -> Response
 }
 
 // What is known of a node of the list, as it is asked for.
-fn tell_node(alloc: Global, inventory: &Inventory, node: NodeNo, ask: &Ask) -> Response
+fn tell_entry(alloc: Global, inventory: &Inventory, node: NodeNo, ask: &Ask) -> Response
     ensures { AnswersNode inventory.now node ask.now result.status result.body }
 {
     match inventory.entry_page(node, ask) {
@@ -120,31 +117,13 @@ fn tell_node(alloc: Global, inventory: &Inventory, node: NodeNo, ask: &Ask) -> R
     }
 }
 
-// What is known of the node of that number, as it is asked for.
+/// What is known of the node of that number, as it is asked for.
 #[tactic(auto, using(crate::proofs::LoadLemmas::no_node))]
-fn tell_number(alloc: Global, inventory: &Inventory, number: &[u8], ask: &Ask) -> Response
-    ensures { AnswersNumber inventory.now (number_at number.now) ask.now result.status result.body }
+pub(crate) fn tell_node(alloc: Global, inventory: &Inventory, number: u64, ask: &Ask) -> Response
+    ensures { AnswersNode inventory.now number ask.now result.status result.body }
 {
-    let Some(number) = number_of(number) else {
-        return unknown_node();
-    };
     if number >= u64::from(inventory.node_count()) {
         return unknown_node();
     }
-    tell_node(alloc, inventory, number as NodeNo, ask)
-}
-
-/// What is known of the node of that number, as the parameters ask.
-pub(crate) fn tell_entry(
-    alloc: Global,
-    inventory: &Inventory,
-    number: &[u8],
-    parameters: &str,
-) -> Response
-    ensures { AnswersEntry inventory.now (number_at number.now) (ask_at parameters.now) result.status result.body }
-{
-    match read_ask(parameters) {
-        Ok(ask) => tell_number(alloc, inventory, number, &ask),
-        Err(_) => Response::no_ask(),
-    }
+    tell_entry(alloc, inventory, number as NodeNo, ask)
 }

@@ -3,6 +3,7 @@
 
 mod knowing;
 mod querying;
+mod question;
 mod responding;
 mod routes;
 mod serving;

@@ -1,4 +1,4 @@
-//! Where requests go.
+//! Where requests go. A router allocates as it is made, and not as it is asked: so it is made once.
 ghost use Rattle.std.specs.Prelude.{◌≡◌, IfOk, length, drop};
 ghost use Rattle.druid_broker.specs.Borrowed.{borrowed_route};
 ghost use Rattle.druid_broker.specs.Routes.{route_of, entry_front};
@@ -67,6 +67,10 @@ pub struct Routes {
 
 impl Routes {
     /// The routes of a broker, which serve any number of requests.
+    ///
+    /// # Errors
+    ///
+    /// `InsertError` (of which no clause speaks).
     pub fn new(alloc: Global) -> Result<Routes, InsertError> {
         Ok(Routes {
             router: router(alloc)?,

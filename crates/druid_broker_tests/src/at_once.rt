@@ -22,35 +22,48 @@ use druid_store::MemoryFolder;
 use std::alloc::Global;
 use std::marker::Brand;
 use std::process::Abort;
+use std::sync::atomic::{AtomicU64, Ordering};
 use std::sync::{Arc, Mutex};
 use std::thread::{JoinHandle, spawn};
 
-// How often the newer version comes and goes.
-const LOADS: u64 = 1_000;
+// How often the newer version comes and goes, and how many turns each syncer takes, at most: queriers end it long before.
+const MOST_LOADS: u64 = 100_000_000;
 
 // How many threads there are beside the loader's, and how many of them are syncers; the others are queriers.
 const THREADS: u16 = 8;
 
 const SYNCERS: usize = 4;
 
-// How many turns each syncer takes, and how many queries each querier posts.
-const TURNS: u64 = 500;
+const QUERIERS: u64 = 4;
 
+// How many queries each querier posts at least, and at most until it saw the answers of both versions.
 const QUERIES: u64 = 150;
+
+const MOST_QUERIES: u64 = 1_000_000;
 
 const OLDER: &str = "v1/0/24/0/1 d:m 35999999/a/1 36000000/a/1 43199999/a/1 43200000/a/1";
 
-const NEWER: &str = "v2/10/12/0/1 d:m 36000000/a/1 43199999/a/1";
+const NEWER: &str = "v2/10/12/0/1 d:m 36000000/a/1 40000000/a/1 43199999/a/1";
 
 const FILE: &str = "w_2024-01-01T10:00:00.000Z_2024-01-01T12:00:00.000Z_v2.seg";
 
 const COUNT: &str = "@,\"aggregations\":[{\"type\":\"count\",\"name\":\"n\"}]}";
 
-const WHOLE: &str = "200 [{\"result\":{\"n\":4},\"timestamp\":\"2024-01-01T00:00:00.000Z\"}]";
+// What is answered of the older version alone, and of the newer over it.
+const OF_OLDER: &str = "200 [{\"result\":{\"n\":4},\"timestamp\":\"2024-01-01T00:00:00.000Z\"}]";
+
+const OF_NEWER: &str = "200 [{\"result\":{\"n\":5},\"timestamp\":\"2024-01-01T00:00:00.000Z\"}]";
 
 // What is answered where the newer version was dropped since it was planned.
 const SHORT: &str =
     "503 {\"error\":\"SegmentsMissing\",\"missing\":[{\"chunk\":\"2024-01-01T10:00:00.000Z/2024-01-01T12:00:00.000Z\",\"itvl\":\"2024-01-01T10:00:00.000Z/2024-01-01T12:00:00.000Z\",\"part\":0,\"ver\":\"v2\"}],\"partial\":[{\"result\":{\"n\":2},\"timestamp\":\"2024-01-01T00:00:00.000Z\"}]}";
+
+// What a lawful answer is of.
+enum Seen {
+    Older,
+    Newer,
+    Short,
+}
 
 type SharedNode = Arc<DataNode<First>, Global>;
 
@@ -144,46 +157,54 @@ fn take_turn<R: Handle, J: Publication, L: Link>(
     Some(read)
 }
 
-// Whether each turn of a syncer is published and read back, and its view reads no mark below an earlier one.
+// Whether each turn of a syncer is published and read back, and its view reads no mark below an earlier one, until no querier asks.
 fn sync_all<R: Handle, J: Publication>(
     rt: R,
     alloc: Global,
     node: &SharedNode,
     publisher: &Mutex<Publisher<J, R>>,
     view: &mut View<J>,
+    asking: &AtomicU64,
 ) -> bool {
     let mut link = link_to(rt, node);
     let mut last = Mark::never();
-    for _ in 0..TURNS {
+    for _ in 0..MOST_LOADS {
+        if asking.load(Ordering::SeqCst) == 0 {
+            return true;
+        }
         match take_turn(rt, alloc, publisher, view, &mut link) {
             Some(mark) if mark >= last => last = mark,
             _ => return false,
         }
     }
-    true
+    false
 }
 
-// Whether a count is answered whole, or without the newer version alone.
-fn is_answered<R: Handle, J: Publication, L: Link + Send>(
+// Which of the three lawful answers a count gets: that of the older version, that of the newer, or that without the newer alone.
+fn version_answered<R: Handle, J: Publication, L: Link + Send>(
     rt: R,
     alloc: Global,
     view: &mut View<J>,
     links: &mut [L],
     turn: u64,
     message: &[u8],
-) -> bool {
+) -> Option<Seen> {
     if !reaches(view, links.len()) {
-        return false;
+        return None;
     }
     let mut written = Vec::new(alloc);
     if try_linked(rt, alloc, view, links, turn, message, &mut written).is_err() {
-        return false;
+        return None;
     }
-    let answer = reported_response(&rt, alloc, &written);
-    answer.as_str() == WHOLE || answer.as_str() == SHORT
+    match reported_response(&rt, alloc, &written).as_str() {
+        OF_OLDER => Some(Seen::Older),
+        OF_NEWER => Some(Seen::Newer),
+        SHORT => Some(Seen::Short),
+        _ => None,
+    }
 }
 
-// Whether all queries of a querier are answered so, and its view reads no mark below an earlier one.
+// Whether all queries of a querier are answered so, of both versions in the end, and its view reads no mark below an earlier one.
 fn query_all<R: Handle, J: Publication>(
     rt: R,
     alloc: Global,
@@ -194,16 +215,23 @@ fn query_all<R: Handle, J: Publication>(
     let message = message_of(&rt, alloc, query.as_str());
     let mut links = links_to(rt, alloc, node);
     let mut last = Mark::never();
-    for turn in 0..QUERIES {
-        if !is_answered(rt, alloc, view, &mut links, turn, message.as_bytes()) {
-            return false;
+    let (mut older, mut newer) = (false, false);
+    for turn in 0..MOST_QUERIES {
+        match version_answered(rt, alloc, view, &mut links, turn, message.as_bytes()) {
+            Some(Seen::Older) => older = true,
+            Some(Seen::Newer) => newer = true,
+            Some(Seen::Short) => {}
+            None => return false,
         }
         match mark_read(view) {
             Some(mark) if mark >= last => last = mark,
             _ => return false,
         }
+        if older && newer && QUERIES <= turn {
+            return true;
+        }
     }
-    true
+    false
 }
 
 // A folder with the file of the newer version.
@@ -215,19 +243,22 @@ fn folder_of(rt: &impl Abort, alloc: Global, segment: &Segment) -> MemoryFolder 
     folder
 }
 
-// Whether the newer version comes and goes each time.
-fn load_all<R: Handle>(rt: R, alloc: Global, node: &DataNode<First>) -> bool {
+// Whether the newer version comes and goes each time, until no querier asks.
+fn load_all<R: Handle>(rt: R, alloc: Global, node: &DataNode<First>, asking: &AtomicU64) -> bool {
     let segment = segment(&rt, alloc, NEWER);
     let mut folder = folder_of(&rt, alloc, &segment);
     let mut seen = Mark::never();
-    for _ in 0..LOADS {
+    for _ in 0..MOST_LOADS {
+        if asking.load(Ordering::SeqCst) == 0 {
+            return true;
+        }
         let loaded = node.load_file(&rt, &mut folder, FILE, &mut seen);
         let dropped = node.drop_segment(&rt, segment.descriptor().id(), &mut seen);
         if loaded.is_err() || dropped.is_err() {
             return false;
         }
     }
-    true
+    false
 }
 
 // Starts the thread of a number: a syncer, or, after those, a querier.
@@ -237,17 +268,20 @@ fn start<R: Handle + 'static, J: Publication + Send + Sync + 'static>(
     number: usize,
     node: &SharedNode,
     publisher: &SharedPublisher<J, R>,
+    asking: &Arc<AtomicU64, Global>,
     view: View<J>,
 ) -> JoinHandle<bool> {
     let node = Arc::try_clone(node).ok().expect(&rt, "memory");
     let publisher = Arc::try_clone(publisher).ok().expect(&rt, "memory");
+    let asking = Arc::try_clone(asking).ok().expect(&rt, "memory");
     let mut view = view;
     let job = move || {
         if number < SYNCERS {
-            sync_all(rt, alloc, &node, &publisher, &mut view)
-        } else {
-            query_all(rt, alloc, &node, &mut view)
+            return sync_all(rt, alloc, &node, &publisher, &mut view, &asking);
         }
+        let answered = query_all(rt, alloc, &node, &mut view);
+        asking.fetch_sub(1, Ordering::SeqCst);
+        answered
     };
     spawn(&rt, job).ok().expect(&rt, "a thread")
 }
@@ -272,11 +306,12 @@ fn start_all<R: Handle + 'static, J: Publication + Send + Sync + 'static>(
     alloc: Global,
     node: &SharedNode,
     publisher: &SharedPublisher<J, R>,
+    asking: &Arc<AtomicU64, Global>,
     views: Vec<View<J>>,
 ) -> Vec<JoinHandle<bool>> {
     let mut threads = Vec::new(alloc);
     for (number, view) in views.into_iter().enumerate() {
-        let thread = start(rt, alloc, number, node, publisher, view);
+        let thread = start(rt, alloc, number, node, publisher, asking, view);
         threads.push(thread).ok().expect(&rt, "memory");
     }
     threads
@@ -310,8 +345,11 @@ fn all_see<R: Handle + 'static, J: Publication + Send + Sync + 'static>(
     let node = node_that_keeps(&rt, alloc, OLDER, 10);
     let node: SharedNode = Arc::new(alloc, node).ok().expect(&rt, "memory");
     sync_each(rt, alloc, &node, &publisher, &mut views);
-    let threads = start_all(rt, alloc, &node, &publisher, views);
-    let loaded = load_all(rt, alloc, &node);
+    let asking = Arc::new(alloc, AtomicU64::new(QUERIERS))
+        .ok()
+        .expect(&rt, "memory");
+    let threads = start_all(rt, alloc, &node, &publisher, &asking, views);
+    let loaded = load_all(rt, alloc, &node, &asking);
     join_all(rt, threads) && loaded
 }
 

@@ -117,7 +117,7 @@ fn assert_line<R: Handle>(rt: R, alloc: Global, line: &str, turn: u64) {
 }
 
 #[test]
-fn ample_memory(rt: HostRuntime) {
+fn answers(rt: HostRuntime) {
     for line in ANSWERS.lines() {
         assert_line(&rt, rt.alloc(), line, 0);
         assert_line(&rt, rt.alloc(), line, 1);

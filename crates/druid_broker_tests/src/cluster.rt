@@ -94,7 +94,7 @@ pub(crate) struct TestLink<R: Handle> {
 
 /// What a data node writes for a request. What was written before a fault comes back all the same.
 pub(crate) fn answer_of(
-    rt: &impl Wait,
+    rt: &(impl Wait + Threads),
     alloc: Global,
     node: &DataNode<First>,
     request: &[u8],
@@ -342,7 +342,7 @@ pub(crate) fn node_that_keeps(
             record(rt, alloc, &mut state, one);
         }
     }
-    DataNode::new(state)
+    DataNode::new(state, 1)
 }
 
 // Follows a node, and tells the view of it.

@@ -4,7 +4,7 @@ ghost use Rattle.std.specs.Prelude.{◌≡◌};
 use crate::cluster::{Cluster, Handle, Setup, answered, followed, set_up};
 use crate::printing::{assert_reported, halves, printed, replaced};
 use crate::published::SNAPSHOT;
-use druid_follow::{fetch, fetch_entry, seed_turn, sync_turn};
+use druid_follow::{fetch_entry, seed_turn, sync_turn};
 use druid_inventory::{Inventory, Outcome};
 use druid_link::MemoryLink;
 use druid_published::{Opened, Publication, Publisher, open};
@@ -174,7 +174,7 @@ fn assert_turns<R: Wait + Abort + Drop + Copy>(rt: &R, alloc: Global) {
 }
 
 #[test]
-fn ample_memory(rt: HostRuntime) {
+fn turns(rt: HostRuntime) {
     assert_turns(&rt, rt.alloc());
 }
 
@@ -257,104 +257,4 @@ fn unsynced_peer(rt: HostRuntime) {
     let mut peer = link(&rt, rt.alloc(), "404 {\"error\":\"V3\"}");
     let reported = fetched(&rt, rt.alloc(), &mut peer);
     assert_reported(&rt, "an unsynced peer", reported, "K4: status 404");
-}
-
-// The load of a partition. With five digits the segments rise as the partitions do.
-fn load_of(rt: &impl Abort, alloc: Global, partition: u16) -> String {
-    format!(in alloc;
-        "{{\"action\":\"load\",\"dataSource\":\"w\",\"interval\":\"2024-01-01/2024-01-02\",\"shardSpec\":{{\"partitionNum\":{partition},\"partitions\":1,\"type\":\"numbered\"}},\"size\":0,\"version\":\"v1\"}}"
-    ).expect(rt, "memory")
-}
-
-// The loads of the partitions from one on and before another.
-fn loads_of(rt: &impl Abort, alloc: Global, first: u16, end: u16) -> String {
-    let mut loads = String::new(alloc);
-    for partition in first..end {
-        if partition != first {
-            loads.push_str(",").expect(rt, "memory");
-        }
-        let load = load_of(rt, alloc, partition);
-        loads.push_str(load.as_str()).expect(rt, "memory");
-    }
-    loads
-}
-
-// The bytes of page 0 of 2, or of page 1 of so many, with the loads of these partitions.
-fn page_reply(rt: &impl Abort, alloc: Global, page: u16, of: u16, loads: &str) -> Vec<u8> {
-    let body = format!(in alloc;
-        "{{\"counter\":{{\"counter\":7,\"hash\":1}},\"from\":null,\"page\":{page},\"pages\":{of},\"requests\":[{loads}],\"resetCause\":null,\"resetCounter\":false}}"
-    ).expect(rt, "memory");
-    whole_reply(rt, alloc, "200", body.as_str())
-}
-
-// What a node tells whose first reply is page 0 of 2, and whose second is this; from the exchange of the fuse on its link fails.
-fn paged(rt: &impl Abort, alloc: Global, second: Vec<u8>, fuse: u64) -> String {
-    let loads = loads_of(rt, alloc, 10_000, 30_000);
-    let first = page_reply(rt, alloc, 0, 2, loads.as_str());
-    let replies = vec![in alloc; first, second].expect(rt, "memory");
-    let mut link = MemoryLink::new(replies, fuse);
-    let inventory = one_node(rt, alloc);
-    if inventory.node_count() == 0 {
-        panic!(rt; "no node");
-    }
-    match fetch(alloc, &inventory, 0, &mut link) {
-        Ok(reply) => snapshot_text(rt, alloc, &reply),
-        Err(fault) => printed(rt, alloc, &fault),
-    }
-}
-
-// A page of one segment at the mark of page 0.
-fn last_page(rt: &impl Abort, alloc: Global, partition: u16) -> Vec<u8> {
-    let load = load_of(rt, alloc, partition);
-    page_reply(rt, alloc, 1, 2, load.as_str())
-}
-
-// Both pages are the snapshot.
-#[test]
-fn pages(rt: HostRuntime) {
-    let alloc = rt.alloc();
-    let second = last_page(&rt, alloc, 30_000);
-    assert_reported(
-        &rt,
-        "both pages",
-        paged(&rt, alloc, second, 2),
-        "1 7: 20001",
-    );
-}
-
-// The link fails for the second page.
-#[test]
-fn page_cut_off(rt: HostRuntime) {
-    let alloc = rt.alloc();
-    let second = last_page(&rt, alloc, 30_000);
-    let answer = paged(&rt, alloc, second, 1);
-    assert_reported(
-        &rt,
-        "no second page",
-        answer,
-        "K1: X2: the message could not be read",
-    );
-}
-
-// Another reply comes for the second page.
-#[test]
-fn page_lost(rt: HostRuntime) {
-    let alloc = rt.alloc();
-    let second = reply(&rt, alloc, SNAPSHOT);
-    let answer = paged(&rt, alloc, second, 2);
-    assert_reported(&rt, "a snapshot", answer, "K5: another page");
-}
-
-// The second page does not rise after the first.
-#[test]
-fn pages_differ(rt: HostRuntime) {
-    let alloc = rt.alloc();
-    let second = last_page(&rt, alloc, 29_999);
-    let answer = paged(&rt, alloc, second, 2);
-    assert_reported(
-        &rt,
-        "a doubled segment",
-        answer,
-        "K3: A7: the pages of a snapshot differ",
-    );
 }

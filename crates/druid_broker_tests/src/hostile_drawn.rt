@@ -45,9 +45,9 @@ const REPLIES: &str =
 // The body of a node's answer to a count.
 const ANSWER: &str = "{\"missing\":[],\"rows\":[[1704067200000,[],[1]]]}";
 
-// The starts of what a broker answers with these statuses.
+// The starts of what a broker answers with these statuses, but for 200.
 const LAWFUL: &str =
-    "200 \n400 {\"error\":\"Q\n400 {\"error\":\"X\n404 {\"error\":\"NoRoute\"}\n404 {\"error\":\"V\n405 {\"error\":\"Method\"}";
+    "400 {\"error\":\"Q\n400 {\"error\":\"X\n404 {\"error\":\"NoRoute\"}\n404 {\"error\":\"V\n405 {\"error\":\"Method\"}";
 
 // One of the lines of a text.
 fn drawn_line<'a>(rt: &impl Abort, draws: &mut Draws, text: &'a str) -> &'a str {
@@ -112,14 +112,41 @@ fn drawn_reply(rt: &impl Abort, alloc: Global, draws: &mut Draws, body: &str) ->
     draw_bytes(rt, alloc, draws, bytes)
 }
 
+// What a broker answers to requests without a body.
+const VALUES: &str = "true\n[\"w\"]\n{\"inventoryInitialized\":true}\n[]";
+
+// What it knows of a node.
+const ENTRY: &str = "{\"counter\":{\"counter\":1,\"hash\":1},\"from\":null,\"requests\":[{";
+
+// Whether a query's answer has the one row that there is, by its value or by a dimension that it has not.
+fn counts_one(body: &str) -> bool {
+    body.split("{\"event\":{").count() == 2
+        && body.ends_with(",\"version\":\"v1\"}]")
+        && (body.contains(":1,") || body.contains(":1}"))
+        && (body.contains(":\"a\"") || body.contains(":null"))
+}
+
+// Whether a body may come with status 200.
+fn is_value(body: &str) -> bool {
+    VALUES.lines().any(|value| value == body)
+        || body.starts_with(ENTRY)
+        || body.starts_with("[{\"event\":{") && counts_one(body)
+}
+
 // Whether a response is one of those that a broker may give, of the status that is reported.
 fn is_lawful(rt: &impl Abort, alloc: Global, code: u16, written: &[u8]) -> bool {
     let Ok((status, body)) = response_of(written) else {
         return false;
     };
     let body = str::from_utf8(body).unwrap_or("");
+    if status.as_u16() != code {
+        return false;
+    }
+    if code == 200 {
+        return is_value(body);
+    }
     let text = format!(in alloc; "{code} {body}").expect(rt, "memory");
-    status.as_u16() == code && LAWFUL.lines().any(|front| text.as_str().starts_with(front))
+    LAWFUL.lines().any(|front| text.as_str().starts_with(front))
 }
 
 // Whether a broker answers a request lawfully, or writes nothing where it is cut off.

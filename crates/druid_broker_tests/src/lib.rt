@@ -27,6 +27,8 @@ mod limits;
 #[cfg(test)]
 mod many_pieces;
 #[cfg(test)]
+mod paged;
+#[cfg(test)]
 mod plain;
 #[cfg(test)]
 mod printing;

@@ -19,8 +19,8 @@ fn partition(rt: &impl Abort, alloc: Global, number: u16) -> Descriptor {
     Descriptor::new(id, 0, 0).expect(rt, "a descriptor")
 }
 
-// What a node tells that serves so many partitions.
-fn reply_of(rt: &impl Abort, alloc: Global, partitions: u16) -> Reply {
+/// What a node tells that serves so many partitions.
+pub(crate) fn reply_of(rt: &impl Abort, alloc: Global, partitions: u16) -> Reply {
     let mut segments = Vec::new(alloc);
     for number in 0..partitions {
         segments
@@ -82,7 +82,7 @@ fn assert_missing(rt: &impl Abort, alloc: Global, answer: &Answer, partitions: u
 // What is gathered where the only node answers so; nothing is a lost answer.
 fn answer_of<R: Handle>(rt: R, alloc: Global, inventory: &Inventory, reported: &str) -> Answer {
     let mut links = vec![in alloc; link(&rt, alloc, reported)].expect(&rt, "memory");
-    gathered(rt, alloc, inventory, &count(&rt, alloc), &mut links)
+    gathered(rt, alloc, inventory, &count(&rt, alloc), 1, &mut links)
 }
 
 const ANSWER: &str = "200 {\"missing\":[],\"rows\":[[1704088800000,[],[7]]]}";
@@ -105,7 +105,7 @@ fn assert_partitions<R: Handle>(rt: R, alloc: Global, partitions: u16) {
 
 #[test]
 fn many_pieces(rt: HostRuntime) {
-    for partitions in [0, 1, 65, 1_001] {
+    for partitions in [0, 1, 65, 1_001, 20_001] {
         assert_partitions(&rt, rt.alloc(), partitions);
     }
 }

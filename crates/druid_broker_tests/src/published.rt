@@ -187,7 +187,7 @@ fn sizes_of_publications(rt: HostRuntime) {
 }
 
 #[test]
-fn ample_memory(rt: HostRuntime) {
+fn two_views(rt: HostRuntime) {
     let read = read_of(&rt, rt.alloc());
     assert_reported(
         &rt,

@@ -12,26 +12,31 @@ use std::process::Abort;
 use std::sync::{Arc, Mutex, Wait};
 use std::thread::{Threads, spawn};
 
-// How often each thread reads, and how much it publishes.
-const READS: u64 = 400;
-
+// How many snapshots each of two threads publishes, at marks whose counts are odd, or even from 2 on.
 const WRITES: u64 = 60;
+
+// The count of the last mark.
+const LAST: u64 = 120;
+
+// How often a thread reads at most, until it reads the last mark.
+const MOST_READS: u64 = 1_000_000_000;
 
 /// The mark of the first node that a view reads.
 pub(crate) fn mark_read<J: Publication>(view: &mut View<J>) -> Option<Mark> {
     view.read().ok()?.mark(0)
 }
 
-// Whether each read finds a mark, and none falls.
+// Whether each read finds a mark, none falls, and the last mark is read in the end.
 fn follows<J: Publication>(view: &mut View<J>) -> bool {
     let mut last = Mark::never();
-    for _turn in 0..READS {
+    for _turn in 0..MOST_READS {
         match mark_read(view) {
+            Some(mark) if mark.count() == LAST => return true,
             Some(mark) if mark >= last => last = mark,
             _ => return false,
         }
     }
-    true
+    false
 }
 
 // Publishes a snapshot without segments at a mark.

@@ -65,7 +65,7 @@ fn made_over<R: Handle>(rt: R, alloc: Global, nodes: &str) -> [(u64, u64); 2] {
 
 // One request for each node and round, to the first of the turned replicas.
 #[test]
-fn ample_memory(rt: HostRuntime) {
+fn one_request_a_round(rt: HostRuntime) {
     let replicas = "v1/0/24/0/1 d:m 0/a/1 | v1/0/24/0/1 d:m 0/a/1";
     assert!(rt; made_over(&rt, rt.alloc(), replicas) == [(1, 0), (0, 1)]);
     let parts = "v1/0/24/0/3 d:m 0/a/1 + v1/0/24/1/3 d:m 0/a/1 + v2/6/12/0/1 d:m | v1/0/24/2/3 d:m";
@@ -203,19 +203,20 @@ fn linked_plan(
     plan
 }
 
-/// What is gathered over these links at turn 1.
+/// What is gathered over these links at a turn.
 pub(crate) fn gathered<R: Handle, L: Link + Send>(
     rt: R,
     alloc: Global,
     inventory: &Inventory,
     query: &Query,
+    turn: u64,
     links: &mut [L],
 ) -> Answer {
     if links.len() < inventory.node_count() as usize {
         panic!(rt; "fewer links than nodes");
     }
     let plan = linked_plan(&rt, alloc, inventory, query, links.len());
-    gather(&rt, alloc, query, &plan, 1, &Rotate, links).expect(&rt, "an answer")
+    gather(&rt, alloc, query, &plan, turn, &Rotate, links).expect(&rt, "an answer")
 }
 
 // The first of the pieces that are missing, or else the bucket and the number of the first group.
@@ -238,7 +239,7 @@ pub(crate) fn gather_text<R: Handle>(
 ) -> String {
     let mut links = vec![in alloc; first, second].expect(&rt, "memory");
     let inventory = of_two(&rt, alloc);
-    let answer = gathered(rt, alloc, &inventory, &count(&rt, alloc), &mut links);
+    let answer = gathered(rt, alloc, &inventory, &count(&rt, alloc), 1, &mut links);
     answer_text(&rt, alloc, &answer)
 }
 

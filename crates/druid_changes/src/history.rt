@@ -1,3 +1,6 @@
+//! The history of one incarnation of a node. The set that it serves is a map that is edited in
+//! place, so a frozen set is a copy of counted references: sharing the map would copy it at the
+//! next change.
 ghost use Rattle.std.specs.Prelude.{◌≡◌, ◌≢◌, ◌↔◌, ◌≤◌, ◌<◌, ◌+◌, ◌⊎◌, if◌then◌else◌, ◌++◌, [], ◌∷◌, List, length, drop, Some, None, IsTrue, IfOk, IfErr, OnOk, OnErr, IsErrOf};
 ghost use Rattle.druid_shard.specs.Reply.{max_page, max_changes};
 ghost use Rattle.druid_pages.specs.Pages.{pages_in};
@@ -108,7 +111,11 @@ impl Model for History {
 }
 
 impl History {
-    /// An incarnation without changes, which keeps the last `kept` of those to come. H9 where memory runs out.
+    /// An incarnation without changes, which keeps the last `kept` of those to come.
+    ///
+    /// # Errors
+    ///
+    /// H9.
     pub fn new(alloc: Global, incarnation: u64, kept: usize) -> Result<History, HistoryFault>
         requires incarnation { 1 ≤ incarnation }
         requires some { 1 ≤ kept }
@@ -205,9 +212,12 @@ impl History {
         self.refusal(change).is_none()
     }
 
-    /// Records a change. For a load: H1 where a segment or a tombstone of that identifier is served, then H3 where 200,000
-    /// of them are. For a drop: H2 where no such segment or tombstone is served. Then H4 at a count of 2^64 - 1, and for a
-    /// load H9 where memory ran out. A refused change leaves all as it was.
+    /// Records a change.
+    ///
+    /// # Errors
+    ///
+    /// Of a load H1, then H3, H4, and H9 last; of a drop H2, then H4, and never H9. Leaves all as
+    /// it was.
     pub fn record(&mut self, change: Change) -> Result<(), HistoryFault>
         ensures place { OnOk result ((self.new.incarnation ≡ self.old.incarnation) × (self.new.limit ≡ self.old.limit)) }
         ensures stands { OnOk result ((history : List Event) → StandsFor self.old history
@@ -244,6 +254,10 @@ impl History {
     }
 
     /// Copies of the segments and tombstones that are served after its changes, by identifier.
+    ///
+    /// # Errors
+    ///
+    /// Out of memory.
     pub fn set(&self) -> Result<Vec<Descriptor>, AllocError>
         ensures value { IfOk result (λ segments. segments.items ≡ self.now.set) }
         ensures replayed { IfOk result (λ segments. (history : List Event) → StandsFor self.now history
@@ -377,9 +391,15 @@ impl History {
         Ok(reply)
     }
 
-    /// What it answers to a broker: all that is served, or the changes after the broker's mark, or a page of the set that it
-    /// froze, or why it has not these. Where all that is served is more than 20,000 segments it freezes that set, unless one is
-    /// frozen, and answers the first page of it. Nothing waits. Where memory runs out all is as it was.
+    /// What it answers to a broker: all that is served, or the changes after the broker's mark, or
+    /// a page of the set that it froze, or why it has not these. Where all that is served is more
+    /// than 20,000 segments it freezes that set, unless one is frozen, and answers the first page
+    /// of it. Nothing waits.
+    ///
+    /// # Errors
+    ///
+    /// Out of memory, but never in place of a reset of an ask for changes, or of one for a page of
+    /// another incarnation. Leaves all as it was.
     pub fn since(&mut self, ask: &Ask) -> Result<Reply, AllocError>
         ensures answer { IfOk result (λ reply. (history : List Event) → StandsFor self.old history
             → answer self.old.incarnation history self.old.limit (frozen_count self.old.frozen) ask.now ≡ Some (reply, frozen_count self.new.frozen)) }

@@ -1,4 +1,5 @@
-//! The history of a node: which changes it records, and what it answers to the brokers that follow it.
+//! The history of a node: which changes it records, and what it answers to the brokers that follow
+//! it.
 #![tactic(auto)]
 
 mod fault;

@@ -1,3 +1,4 @@
+//! The segments and tombstones that a node serves, by identifier.
 ghost use Rattle.std.specs.Prelude.{◌≡◌, [], length, IsTrue, IsOk, IfOk, OnOk, OnErr};
 ghost use Rattle.std.specs.Option.{option_copied};
 ghost use Rattle.druid_shard.specs.Replay.{IsSegmentSet, is_strict, has_room, after, with_segment, without_segment};

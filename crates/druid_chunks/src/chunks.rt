@@ -1,3 +1,4 @@
+//! The chunks of a data source, in the order of their places.
 ghost use Rattle.std.specs.Prelude.{◌≡◌, ◌↔◌, ◌≤◌, ℕ, List, [], length, map, vec_capacity, Contains, IsTrue, IsOk, IfOk, OnOk, OnErr, MatchOption};
 ghost use Rattle.std.specs.List.{IsDistinct};
 ghost use Rattle.std.specs.List.Sorted.{IsStrictlyIncreasing};
@@ -99,7 +100,11 @@ impl Chunks {
         &self.items
     }
 
-    /// The chunk of a group, if there is one.
+    /// The chunk of a group.
+    ///
+    /// # Errors
+    ///
+    /// None where no chunk is of it.
     pub fn find(&self, key: &GroupKey) -> Option<&Chunk>
         ensures found { MatchOption result (HasNoChunk self.now key.now)
             (λ chunk. Contains self.now chunk.now × (chunk.now.0 ≡ key.now)) }
@@ -189,6 +194,10 @@ impl Chunks {
     }
 
     /// The complete chunks other than that of a segment which share an instant with a part, each once.
+    ///
+    /// # Errors
+    ///
+    /// Out of memory.
     pub fn overlapping(&self, id: &SegmentId, part: Interval) -> Result<Vec<&GroupKey>, AllocError>
         ensures all { IfOk result (λ found. (g : Group) → Contains (map (λ key. key.now) found.items) g
             ↔ IsOverlapOf self.now (group_of id.now) part g) }
@@ -198,7 +207,11 @@ impl Chunks {
         overlaps_in(self.alloc, self.ordered(), id, part)
     }
 
-    /// Adds a segment, held by a node that does not hold it yet. A refusal changes nothing.
+    /// Adds a segment, held by a node that does not hold it yet.
+    ///
+    /// # Errors
+    ///
+    /// Out of memory. Leaves the same set of members at each group.
     pub fn add(&mut self, descriptor: &Descriptor, node: NodeNo) -> Result<(), AllocError>
         requires { HoldsPlace (members_at self.old (group_of descriptor.now.id)) descriptor.now.id.partition node → ⊥ }
         ensures added { OnOk result (Adds (members_at self.old (group_of descriptor.now.id))
@@ -224,8 +237,13 @@ impl Chunks {
         }
     }
 
-    /// Takes a segment from what a node serves that serves it. A chunk that would be left without members goes, and then
-    /// nothing is allocated. A refusal changes nothing.
+    /// Takes a segment from what a node serves that serves it. A chunk that would be left without
+    /// members goes.
+    ///
+    /// # Errors
+    ///
+    /// Out of memory, but never where no member would be left. Leaves the same set of members at
+    /// each group.
     pub fn remove(&mut self, id: &SegmentId, node: NodeNo) -> Result<(), AllocError>
         requires { HoldsPlace (members_at self.old (group_of id.now)) id.now.partition node }
         ensures removed { OnOk result (RemovesPlace (members_at self.old (group_of id.now))

@@ -1,5 +1,5 @@
-//! The chunks that share an instant with a part of time: of each length class that occurs, only those that start near it
-//! are looked at.
+//! The chunks that share an instant with a part of time: of each length class that occurs, only
+//! those that start near it are looked at.
 ghost use Rattle.std.specs.Prelude.{◌≡◌, ◌≤◌, ◌<◌, ◌+◌, ◌-◌, ◌^◌, ◌↔◌, IsTrue, IfOk, length, map, take};
 ghost use Rattle.std.specs.List.{AllWithin};
 ghost use Rattle.druid_time.specs.Extent.{Share, IsExtent};

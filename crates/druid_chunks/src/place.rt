@@ -1,4 +1,5 @@
-//! Where a chunk stands among those of its data source: by the length class of its interval, then by start and by end.
+//! Where a chunk stands among those of its data source: by the length class of its interval, then
+//! by start and by end.
 ghost use Rattle.std.specs.Prelude.{◌≡◌, ◌↔◌, ◌<◌, ◌+◌, ◌-◌, ◌^◌, IsTrue};
 ghost use Rattle.druid_time.specs.Extent.{IsExtent};
 ghost use Rattle.druid_time.specs.Instant.{IsInstant, instant_count};

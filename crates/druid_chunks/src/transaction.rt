@@ -101,7 +101,11 @@ impl Transaction {
         &self.chunks
     }
 
-    /// Adds a segment, served by a node that does not serve it yet. A refusal changes nothing.
+    /// Adds a segment, served by a node that does not serve it yet.
+    ///
+    /// # Errors
+    ///
+    /// Out of memory. Leaves the same set of members at each group, and what a roll back gives.
     pub fn add(&mut self, descriptor: &Descriptor, node: NodeNo) -> Result<(), AllocError>
         requires { HoldsPlace (members_at self.old.now (group_of descriptor.now.id)) descriptor.now.id.partition node → ⊥ }
         ensures added { OnOk result (Adds (members_at self.old.now (group_of descriptor.now.id))
@@ -117,7 +121,11 @@ impl Transaction {
         add_logged(&mut self.chunks, &mut self.log, descriptor, node)
     }
 
-    /// Takes a segment from what a node serves that serves it. A refusal changes nothing.
+    /// Takes a segment from what a node serves that serves it.
+    ///
+    /// # Errors
+    ///
+    /// Out of memory. Leaves the same set of members at each group, and what a roll back gives.
     pub fn remove(&mut self, id: &SegmentId, node: NodeNo) -> Result<(), AllocError>
         requires { HoldsPlace (members_at self.old.now (group_of id.now)) id.now.partition node }
         ensures removed { OnOk result (RemovesPlace (members_at self.old.now (group_of id.now))

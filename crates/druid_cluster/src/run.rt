@@ -1,4 +1,5 @@
-//! Whole runs.
+//! Whole runs. A device that fails is known by its line: where the flush fails, by that which ended
+//! the run or, where all were answered, by the one after the last.
 ghost use Rattle.std.specs.Prelude.{◌≡◌, ◌≢◌, ◌≤◌, length, take, ◌+◌, IfOk, IfErr, OnOk, OnErr};
 ghost use Rattle.std.specs.Io.KnownBytes.{Appends, Keeps};
 ghost use Rattle.std.specs.IoError.{error_kind};
@@ -93,7 +94,12 @@ fn answer_lines<R: BufRead, W: Write>(
     }
 }
 
-/// As `replay`, and says what ended the run too: of a bad line what is wrong with it, of a device which it was.
+/// As `replay`, and says what ended the run too: of a bad line the first thing that is wrong with
+/// it, of a device which it was (which is tested).
+///
+/// # Errors
+///
+/// Those of `replay`.
 #[tactic(auto, using(crate::proofs::RunLemmas::flushed, crate::proofs::RunLemmas::ended_flushed))]
 pub fn replay_explained<R: BufRead, W: Write>(
     alloc: Global,
@@ -118,12 +124,18 @@ pub fn replay_explained<R: BufRead, W: Write>(
     }
 }
 
-/// Answers each line of an input by a line, in order, until the input ends or a line is bad, which no answer tells. What
-/// was written is flushed at the end, whatever it is. No more than one line of the input is kept.
+/// Answers each line of an input by a line, in order, until the input ends or a line is bad, which
+/// no answer tells. What was written is flushed at the end, whatever it is. No more than one line
+/// of the input is kept. But for devices and memory, what it writes is determined by the input (law
+/// `one_run`).
 ///
-/// `BadCommand` where a line is longer than 16 MiB, no JSON or no command, and `Device` where a read or a write fails,
-/// memory runs out or there are more than 2^64 - 1 lines: then the lines before are answered, and of the answer to that
-/// line a front may be written, which is not the whole. Where the flush fails, `Device` tells the line that ended the run.
+/// # Errors
+///
+/// `BadCommand` of a line that is longer than 16 MiB, no JSON or no command; `Device`, in place of
+/// any, where a read or a write fails, memory runs out, or there are more than 2^64 - 1 lines (read
+/// in the code). The lines before are answered, and at `Device` a front of the answer to that line
+/// may be written, which is not the whole. Where the flush fails, `Device` tells the line that
+/// ended the run. What a line is refused is an answer, and changes nothing.
 pub fn replay<R: BufRead, W: Write>(
     alloc: Global,
     reader: &mut R,

@@ -1,4 +1,4 @@
-//! Commands, carried out.
+//! Commands, carried out. Pages are not put together: one is answered `AskPages`.
 ghost use Rattle.std.specs.Prelude.{◌≡◌, ◌↔◌, ◌≤◌, ◌<◌, ℕ, All, Some, None, length, map, IsTrue, IsUtf8, IfErr, IfNone, IfOk, IfSome, OnErr};
 ghost use Rattle.druid_segid.specs.Names.{IsName};
 ghost use Rattle.druid_inventory.specs.Entry.{max_nodes};

@@ -1,5 +1,7 @@
-//! The program `druid_cluster`: `druid_cluster replay` answers the commands on standard input, and `druid_cluster serve CONFIG`
-//! serves the cluster of a config.
+//! The program `druid_cluster`: `druid_cluster replay` answers the commands on standard input, and
+//! `druid_cluster serve CONFIG` serves the cluster of a config. Buffers are made here, so that the
+//! contract of `run` speaks of the writer that the program uses, and nothing stays in a buffer that
+//! the call drops. Where memory for them is refused it ends with status 3 and reports nothing.
 #![tactic(auto)]
 
 use druid_program::{Environment, Exit, asks_for_explanation, run, start_log};

@@ -12,10 +12,10 @@ use Rattle.druid_base.proofs.StepLemmas.{stepped}
 use Rattle.druid_base.specs.Each.{each_of}
 use Rattle.druid_base.proofs.EachLemmas.{each_sound}
 use Rattle.druid_segid.specs.Names.{is_name}
-use Rattle.druid_config.specs.Limits.{max_servers, max_workers, max_kept, max_count, max_rest, max_patience, usual_patience, max_front}
+use Rattle.druid_config.specs.Limits.{max_servers, max_workers, max_kept, max_count, max_rest, max_patience, usual_patience, max_front, max_threads}
 use Rattle.druid_base.specs.Fields.{list_at, text_at, number_at}
 use Rattle.druid_config.specs.Addresses.{is_address, IsAddress, IsLocal}
-use Rattle.druid_config.specs.Configs.{IsObject, Node, Broker, Asked, Posted, Settings, Reported, asked_of, reported_by, name_at, address_at, another_of, another_at, some_at, count_at, rest_of, rest_at, patience_of, front_of, front_at, patience_at, is_endless, connections_at, node_at, broker_at, query_at, are_few, names_of, nodes_in, brokers_in, config_at, IsRest, IsPatience, IsNode, IsBroker, AreLocal, IsLocalNode, IsLocalBroker, IsWithinLimits}
+use Rattle.druid_config.specs.Configs.{IsObject, Node, Broker, Asked, Posted, Settings, Reported, asked_of, reported_by, name_at, address_at, another_of, another_at, some_at, count_at, rest_of, rest_at, patience_of, front_of, front_at, threads_of, threads_at, patience_at, is_endless, connections_at, node_at, broker_at, query_at, are_few, names_of, nodes_in, brokers_in, config_at, IsRest, IsPatience, IsNode, IsBroker, AreLocal, IsLocalNode, IsLocalBroker, IsWithinLimits}
 use Rattle.druid_base.specs.Distinct.{AreDistinct, are_distinct}
 use Rattle.druid_config.proofs.AddressLemmas.{any_address, local_address}
 use Rattle.druid_config.proofs.PartLemmas.{SettingsParts, ServerParts, node_parts, broker_parts, query_parts, config_parts}
@@ -139,6 +139,10 @@ front_so d (Some there) n e = leb-true n max_front (passed (λ n. nat_le n max_f
 pub front_is : (d : Data) (n : ℕ) → front_at d ≡ Some n → n ≤ max_front
 front_is d n e = front_so d (get (codes "front") d) n e
 
+threads_so : (d : Data) (o : Option Data) (n : ℕ) → threads_of d o ≡ Some n → Between 1 max_threads n
+threads_so d None n e = subst (Between 1 max_threads) (same_Some 1 n e) (record { above = lit≤ tt; below = lit≤ tt })
+threads_so d (Some there) n e = some_between max_threads (codes "threads") d n e
+
 rest_given : (o : Option ℕ) (rest : Option ℕ) → option_map Some o ≡ Some rest → IsSome rest
 rest_given None rest e = absurd cc
 rest_given (Some n) rest e = subst (λ r. IsSome r) (same_Some (Some n) rest e) refl
@@ -166,6 +170,7 @@ pub node_is : (network : Bool) (d : Data) (node : Node) → node_at network d �
 node_is network d node read =
     let parts = node_parts network d node read in
     let workers = some_between max_workers (codes "workers") d node.workers parts.workers in
+    let threads = threads_so d (get (codes "threads") d) node.threads parts.threads in
     let there = node_addressed network d node read in
     record {
       name = name_is d node.name parts.name;
@@ -176,6 +181,8 @@ node_is network d node read =
       few_workers = workers.below;
       rest = rest_is (codes "watch") d node.watch parts.watch;
       few_front = front_is d node.front parts.front;
+      some_threads = threads.above;
+      few_threads = threads.below;
     }
 
 node_local : (network : Bool) → network ≡ false → (d : Data) (node : Node) → node_at network d ≡ Some node → IsLocalNode node

@@ -1,5 +1,5 @@
 -- What the parts of a config are, where it is read.
-use Rattle.std.proofs.Common.{◌≡◌, ℕ, List, Bool, length, codes, Option, Some, None, IsSome, is_some, true, unwrap_or, option_and_then, refl, sym, subst, ap, ◌∙◌}
+use Rattle.std.proofs.Common.{◌≡◌, ℕ, List, Bool, length, codes, Option, Some, None, IsSome, is_some, is_none, true, false, unwrap_or, option_and_then, refl, sym, subst, ap, ◌∙◌}
 use Rattle.std.proofs.lemmas.Option.{same_Some}
 use Rattle.serde_json.specs.Data.{Data}
 use Rattle.druid_base.proofs.OptionLemmas.{chained, given_so}
@@ -8,7 +8,7 @@ use Rattle.druid_base.specs.Options.{◌>>=◌}
 use Rattle.druid_segid.specs.Identifier.{Identifier}
 use Rattle.druid_base.specs.Fields.{text_at}
 use Rattle.druid_config.specs.Limits.{max_workers, max_kept}
-use Rattle.druid_config.specs.Configs.{Node, Broker, Asked, Settings, Reported, addresses_of, node_of, broker_of, settings_of, reported_by, name_at, address_at, another_at, network_at, front_at, some_at, count_at, rest_at, patience_at, is_endless, connections_at, loads_at, tombstones_at, place_at, object_at, node_at, broker_at, query_at, nodes_at, brokers_at, queries_at, settings_at, servers_at, config_at}
+use Rattle.druid_config.specs.Configs.{Node, Broker, Asked, Settings, Reported, addresses_of, node_of, broker_of, settings_of, reported_by, name_at, address_at, another_at, network_at, front_at, threads_at, some_at, count_at, rest_at, patience_at, is_endless, connections_at, loads_at, tombstones_at, place_at, object_at, node_at, broker_at, query_at, nodes_at, brokers_at, queries_at, settings_at, servers_at, config_at}
 
 pub some_of : {A : Type 0} (o : Option A) → IsSome o → (x : A) × (o ≡ Some x)
 some_of None some = absurd cc
@@ -32,14 +32,19 @@ pub record NodeParts (network : Bool) (d : Data) (node : Node) : Type 0 where
   pub asked : Option (List ℕ)
   pub asked_is : another_at network (codes "listen") d ≡ Some asked
   pub listen : unwrap_or asked node.address ≡ node.listen
+  pub threads : threads_at d ≡ Some node.threads
 
-abbrev node_last : Bool → Data → List ℕ → List ℕ → List ℕ → List (List ℕ) → List Identifier → ℕ → Option ℕ → Option (List ℕ) → ℕ → Option Node
-node_last network d name address folder loads tombstones workers watch status front =
-    another_at network (codes "listen") d >>= λ listen. Some (node_of name (addresses_of address listen status) folder loads tombstones workers watch front)
+abbrev node_last : Data → List ℕ → List ℕ → List ℕ → List (List ℕ) → List Identifier → ℕ → Option ℕ → Option (List ℕ) → ℕ → Option (List ℕ) → Option Node
+node_last d name address folder loads tombstones workers watch status front listen =
+    threads_at d >>= λ threads. Some (node_of name (addresses_of address listen status) folder loads tombstones workers watch front threads)
+
+abbrev node_tenth : Bool → Data → List ℕ → List ℕ → List ℕ → List (List ℕ) → List Identifier → ℕ → Option ℕ → Option (List ℕ) → ℕ → Option Node
+node_tenth network d name address folder loads tombstones workers watch status front =
+    another_at network (codes "listen") d >>= node_last d name address folder loads tombstones workers watch status front
 
 abbrev node_ninth : Bool → Data → List ℕ → List ℕ → List ℕ → List (List ℕ) → List Identifier → ℕ → Option ℕ → Option (List ℕ) → Option Node
 node_ninth network d name address folder loads tombstones workers watch status =
-    front_at d >>= node_last network d name address folder loads tombstones workers watch status
+    front_at d >>= node_tenth network d name address folder loads tombstones workers watch status
 
 abbrev node_eighth : Bool → Data → List ℕ → List ℕ → List ℕ → List (List ℕ) → List Identifier → ℕ → Option ℕ → Option Node
 node_eighth network d name address folder loads tombstones workers watch =
@@ -76,10 +81,11 @@ node_parts network d =
     (λ tombstones k. each_next (NodeParts network d) (some_at max_workers (codes "workers") d) (node_seventh network d name address folder loads tombstones)
     (λ workers j. each_next (NodeParts network d) (rest_at (codes "watch") d) (node_eighth network d name address folder loads tombstones workers)
     (λ watch w. each_next (NodeParts network d) (another_at network (codes "status") d) (node_ninth network d name address folder loads tombstones workers watch)
-    (λ status s. each_next (NodeParts network d) (front_at d) (node_last network d name address folder loads tombstones workers watch status)
-    (λ front f. each_next (NodeParts network d) (another_at network (codes "listen") d) (λ listen. Some (node_of name (addresses_of address listen status) folder loads tombstones workers watch front))
-    (λ listen l. given_so (NodeParts network d) (node_of name (addresses_of address listen status) folder loads tombstones workers watch front)
-    (record { name = a; address = b; folder = h; loads = i; tombstones = k; workers = j; watch = w; status = s; front = f; asked = listen; asked_is = l; listen = refl })))))))))))
+    (λ status s. each_next (NodeParts network d) (front_at d) (node_tenth network d name address folder loads tombstones workers watch status)
+    (λ front f. each_next (NodeParts network d) (another_at network (codes "listen") d) (node_last d name address folder loads tombstones workers watch status front)
+    (λ listen l. each_next (NodeParts network d) (threads_at d) (λ threads. Some (node_of name (addresses_of address listen status) folder loads tombstones workers watch front threads))
+    (λ threads t. given_so (NodeParts network d) (node_of name (addresses_of address listen status) folder loads tombstones workers watch front threads)
+    (record { name = a; address = b; folder = h; loads = i; tombstones = k; workers = j; watch = w; status = s; front = f; asked = listen; asked_is = l; listen = refl; threads = t }))))))))))))
 
 goes_on : {A B : Type 0} (o : Option A) (f : A → Option B) → is_some o ≡ true → ((x : A) → is_some (f x) ≡ true) → is_some (o >>= f) ≡ true
 goes_on None f there next = absurd cc
@@ -88,9 +94,10 @@ goes_on (Some x) f there next = next x
 -- where each part reads, so does the node
 pub node_whole : (network : Bool) (d : Data) → is_some (name_at d) ≡ true → is_some (address_at network (codes "address") d) ≡ true → is_some (text_at (codes "folder") d) ≡ true
     → is_some (loads_at d) ≡ true → is_some (tombstones_at d) ≡ true → is_some (some_at max_workers (codes "workers") d) ≡ true → is_some (rest_at (codes "watch") d) ≡ true
-    → is_some (another_at network (codes "status") d) ≡ true → is_some (front_at d) ≡ true → is_some (another_at network (codes "listen") d) ≡ true → is_some (node_at network d) ≡ true
+    → is_some (another_at network (codes "status") d) ≡ true → is_some (front_at d) ≡ true → is_some (another_at network (codes "listen") d) ≡ true
+    → is_some (threads_at d) ≡ true → is_some (node_at network d) ≡ true
 unfolding node_at
-node_whole network d a b h i k j w s f l =
+node_whole network d a b h i k j w s f l t =
     goes_on (name_at d) (node_second network d) a
     (λ name. goes_on (address_at network (codes "address") d) (node_third network d name) b
     (λ address. goes_on (text_at (codes "folder") d) (node_fourth network d name address) h
@@ -99,9 +106,10 @@ node_whole network d a b h i k j w s f l =
     (λ tombstones. goes_on (some_at max_workers (codes "workers") d) (node_seventh network d name address folder loads tombstones) j
     (λ workers. goes_on (rest_at (codes "watch") d) (node_eighth network d name address folder loads tombstones workers) w
     (λ watch. goes_on (another_at network (codes "status") d) (node_ninth network d name address folder loads tombstones workers watch) s
-    (λ status. goes_on (front_at d) (node_last network d name address folder loads tombstones workers watch status) f
-    (λ front. goes_on (another_at network (codes "listen") d) (λ listen. Some (node_of name (addresses_of address listen status) folder loads tombstones workers watch front)) l
-    (λ listen. refl))))))))))
+    (λ status. goes_on (front_at d) (node_tenth network d name address folder loads tombstones workers watch status) f
+    (λ front. goes_on (another_at network (codes "listen") d) (node_last d name address folder loads tombstones workers watch status front) l
+    (λ listen. goes_on (threads_at d) (λ threads. Some (node_of name (addresses_of address listen status) folder loads tombstones workers watch front threads)) t
+    (λ threads. refl)))))))))))
 
 -- ---- brokers
 
@@ -259,6 +267,21 @@ status_read network d some none = let read = node_reads network d some in let no
 
 pub listen_read : (network : Bool) (d : Data) → IsSome (node_at network d) → None ≡ another_at network (codes "listen") d → ⊥
 listen_read network d some none = let read = node_reads network d some in let no = none ∙ read.1.asked_is in absurd cc
+
+pub threads_read : (network : Bool) (d : Data) → IsSome (node_at network d) → None ≡ threads_at d → ⊥
+threads_read network d some none = let read = node_reads network d some in let no = none ∙ read.1.threads in absurd cc
+
+lacking : (o : Option Node) → (IsSome o → ⊥) → false ≡ is_some o
+lacking None none = refl
+lacking (Some node) none = absurd (none refl)
+
+none_is : {A : Type 0} (o : Option A) → is_none o ≡ true → None ≡ o
+none_is None none = refl
+none_is (Some x) none = absurd cc
+
+-- where its threads do not read, the node does not
+pub threads_lack : (network : Bool) (d : Data) → is_none (threads_at d) ≡ true → false ≡ is_some (node_at network d)
+threads_lack network d none = lacking (node_at network d) (λ some. threads_read network d some (none_is (threads_at d) none))
 
 settings_reads : (d : Data) → IsSome (settings_at d) → (settings : Settings) × SettingsParts d settings
 settings_reads d some = let read = some_of (settings_at d) some in (read.0, settings_parts d read.0 read.1)

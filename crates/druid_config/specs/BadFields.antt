@@ -6,7 +6,7 @@ use Rattle.serde_json.specs.Data.{Data, Items}
 use Rattle.serde_json.specs.Find.{get_item}
 use Rattle.druid_base.specs.Each.{each_of}
 use Rattle.druid_base.specs.Fields.{list_at, text_at}
-use Rattle.druid_config.specs.Configs.{Node, Broker, network_at, name_at, address_at, another_at, loads_at, tombstones_at, some_at, count_at, rest_at, front_at, patience_at, connections_at, place_at, object_at, node_at, broker_at, brokers_at, names_of, are_few}
+use Rattle.druid_config.specs.Configs.{Node, Broker, network_at, name_at, address_at, another_at, loads_at, tombstones_at, some_at, count_at, rest_at, front_at, threads_at, patience_at, connections_at, place_at, object_at, node_at, broker_at, brokers_at, names_of, are_few}
 use Rattle.druid_config.specs.Limits.{max_workers, max_kept}
 use Rattle.druid_config.specs.declared.bad_field.BadField.{BadField}
 use Rattle.druid_config.specs.declared.bad_field.BadField.TheVariants as bad
@@ -53,6 +53,7 @@ BreaksNode network items place node.Watch = Lacks (rest_at (codes "watch")) item
 BreaksNode network items place (node.Status rule) = (rule ≡ rule_of network) × Lacks (another_at network (codes "status")) items place
 BreaksNode network items place node.Front = Lacks front_at items place
 BreaksNode network items place (node.Listen rule) = (rule ≡ rule_of network) × Lacks (another_at network (codes "listen")) items place
+BreaksNode network items place node.Threads = Lacks threads_at items place
 
 abbrev pub BreaksBroker : Bool → Items → ℕ → BrokerRule → Type 0
 BreaksBroker network items place (broker.Address rule) = (rule ≡ rule_of network) × Lacks (address_at network (codes "address")) items place

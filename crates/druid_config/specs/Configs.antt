@@ -12,7 +12,7 @@ use Rattle.druid_base.specs.Fields.{list_at, text_at, number_at}
 use Rattle.druid_shard_text.specs.Json.{source_at, interval_at, version_at}
 use Rattle.druid_base.specs.Each.{each_of}
 use Rattle.druid_config.specs.Addresses.{is_address, IsAddress, IsLocal}
-use Rattle.druid_config.specs.Limits.{max_servers, max_workers, max_kept, max_count, max_rest, max_patience, usual_patience, max_front}
+use Rattle.druid_config.specs.Limits.{max_servers, max_workers, max_kept, max_count, max_rest, max_patience, usual_patience, max_front, max_threads}
 
 -- ---- what a config tells
 
@@ -27,7 +27,8 @@ abbrev pub addresses_of : List ℕ → Option (List ℕ) → Option (List ℕ) �
 addresses_of address listen status = record { address = address; listen = unwrap_or listen address; status = status }
 
 -- a data node: its name, its addresses, the path of its folder, the files that it loads, the tombstones that it places, how many
--- threads answer, after how many milliseconds each it looks at its folder, if it does, and how many front threads it has
+-- threads answer, after how many milliseconds each it looks at its folder, if it does, how many front threads it has, and how many
+-- threads count one query
 pub record Node : Type 0 where
   pub name : List ℕ
   pub address : List ℕ
@@ -39,9 +40,10 @@ pub record Node : Type 0 where
   pub workers : ℕ
   pub watch : Option ℕ
   pub front : ℕ
+  pub threads : ℕ
 
-abbrev pub node_of : List ℕ → Addresses → List ℕ → List (List ℕ) → List Identifier → ℕ → Option ℕ → ℕ → Node
-node_of name addresses folder loads tombstones workers watch front = record {
+abbrev pub node_of : List ℕ → Addresses → List ℕ → List (List ℕ) → List Identifier → ℕ → Option ℕ → ℕ → ℕ → Node
+node_of name addresses folder loads tombstones workers watch front threads = record {
   name = name;
   address = addresses.address;
   listen = addresses.listen;
@@ -52,6 +54,7 @@ node_of name addresses folder loads tombstones workers watch front = record {
   workers = workers;
   watch = watch;
   front = front;
+  threads = threads;
 }
 
 -- a broker: its addresses, how many threads answer, and how many front threads it has
@@ -237,6 +240,14 @@ front_of d (Some there) = option_and_then (λ n. if nat_le n max_front then Some
 abbrev pub front_at : Data → Option ℕ
 front_at d = front_of d (get (codes "front") d)
 
+-- how many threads count one query: one where there is no such key
+abbrev pub threads_of : Data → Option Data → Option ℕ
+threads_of d None = Some 1
+threads_of d (Some there) = some_at max_threads (codes "threads") d
+
+abbrev pub threads_at : Data → Option ℕ
+threads_at d = threads_of d (get (codes "threads") d)
+
 -- the cluster does not end: `every` is there, and no `connections`
 abbrev pub is_endless : Data → Bool
 is_endless d = is_none (get (codes "connections") d) && is_some (get (codes "every") d)
@@ -279,7 +290,8 @@ node_at network d = do
   status ← another_at network (codes "status") d
   front ← front_at d
   listen ← another_at network (codes "listen") d
-  Some (node_of name (addresses_of address listen status) folder loads tombstones workers watch front)
+  threads ← threads_at d
+  Some (node_of name (addresses_of address listen status) folder loads tombstones workers watch front threads)
 
 unfoldable pub broker_at : Bool → Data → Option Broker
 broker_at network d = do
@@ -367,7 +379,7 @@ pub record IsPatience (n : ℕ) : Type 0 where
   pub some : 1 ≤ n
   pub short : n ≤ max_patience
 
--- a node of that name, at addresses of ports, which has 1 to 16 workers and at most 256 front threads
+-- a node of that name, at addresses of ports, which has 1 to 16 workers, at most 256 front threads, and 1 to 16 threads for one query
 pub record IsNode (node : Node) : Type 0 where
   pub name : IsTrue (is_name node.name)
   pub address : IsAddress node.address
@@ -377,6 +389,8 @@ pub record IsNode (node : Node) : Type 0 where
   pub few_workers : node.workers ≤ max_workers
   pub rest : IfSome node.watch IsRest
   pub few_front : node.front ≤ max_front
+  pub some_threads : 1 ≤ node.threads
+  pub few_threads : node.threads ≤ max_threads
 
 -- a broker at addresses of ports, which has 1 to 16 workers and at most 256 front threads
 pub record IsBroker (broker : Broker) : Type 0 where

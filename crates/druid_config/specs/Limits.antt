@@ -33,6 +33,10 @@ usual_patience = 30000
 abbrev pub max_front : ℕ
 max_front = 256
 
+-- the most threads that one query takes of a node
+abbrev pub max_threads : ℕ
+max_threads = 16
+
 -- the greatest port
 abbrev pub max_port : ℕ
 max_port = 65535

@@ -1,4 +1,7 @@
-//! Addresses of servers: an IPv4 address and a port.
+//! Addresses of servers: an IPv4 address and a port, in the digits that they print as. No name is
+//! looked up, so that where a link leads does not change under it. Others than those of this
+//! machine are taken only where a config says `"network": true`: there is no way to tell who
+//! connects.
 ghost use Rattle.std.specs.Prelude.{◌≡◌, ◌<◌, option_map};
 ghost use Rattle.druid_base.specs.Numbers as numbers;
 ghost use Rattle.druid_config.specs.Addresses.{is_port, is_octet, is_local, after_octet, after_host, is_host_port, is_address};

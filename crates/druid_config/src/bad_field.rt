@@ -106,6 +106,9 @@ pub enum NodeRule {
     /// `listen` is absent, or an address.
     #[error("listen: not {0}")]
     Listen(AddressRule),
+    /// `threads` is absent, or such a number.
+    #[error("threads: not a number from 1 to 16")]
+    Threads,
 }
 
 /// What a field of a broker has to be, and is not.

@@ -1,4 +1,6 @@
-//! A config, built out of JSON that was judged before: only memory can still run out.
+//! A config, built out of JSON that was judged before: only memory can still run out. A query is
+//! kept as its compact text, which reads back as its JSON; where that has a fraction no more is
+//! said of the text.
 ghost use Rattle.std.specs.Prelude.{◌≡◌, ◌≤◌, Some, IsSome, IfOk, map, option_map, string_bytes};
 ghost use Rattle.serde_json.specs.Data.{depth, items_depth};
 ghost use Rattle.serde_json.specs.Find.{as_str};
@@ -11,7 +13,7 @@ use crate::config::{Addresses, Settings};
 use crate::fields::{
     address_field, another_field, chunk_field, connections_field, count_field, front_field,
     is_endless, name_field, network_field, object_field, patience_field, place_field, rest_field,
-    some_field,
+    some_field, threads_field,
 };
 use crate::limits::{MAX_KEPT, MAX_WORKERS};
 use crate::{BrokerConfig, Config, NodeConfig, QueryConfig};
@@ -134,7 +136,7 @@ fn addresses_of(
 }
 
 // A node.
-#[tactic(auto, using(crate::proofs::PartLemmas::name_reads, crate::proofs::PartLemmas::loads_read, crate::proofs::PartLemmas::tombstones_read, crate::proofs::PartLemmas::watch_read, crate::proofs::PartLemmas::status_read, crate::proofs::PartLemmas::listen_read), unfolding(crate::specs::Configs::node_at))]
+#[tactic(auto, using(crate::proofs::PartLemmas::name_reads, crate::proofs::PartLemmas::loads_read, crate::proofs::PartLemmas::tombstones_read, crate::proofs::PartLemmas::watch_read, crate::proofs::PartLemmas::status_read, crate::proofs::PartLemmas::listen_read, crate::proofs::PartLemmas::threads_read), unfolding(crate::specs::Configs::node_at))]
 fn node_of(alloc: Global, value: &Value, network: bool) -> Result<NodeConfig, AllocError>
     requires { IsSome (node_at network (view value.now)) }
     ensures { IfOk result (λ node. node_at network (view value.now) ≡ Some node) }
@@ -163,10 +165,13 @@ fn node_of(alloc: Global, value: &Value, network: bool) -> Result<NodeConfig, Al
     let Some(listen) = another_field(value, "listen", network) else {
         unreachable!()
     };
+    let Some(threads) = threads_field(value) else {
+        unreachable!()
+    };
     let addresses = addresses_of(alloc, address, listen, status)?;
     let folder = String::from_str(alloc, folder)?;
     Ok(NodeConfig::new(
-        name, addresses, folder, loads, tombstones, workers, watch, front,
+        name, addresses, folder, loads, tombstones, workers, watch, front, threads,
     ))
 }
 

@@ -34,6 +34,7 @@ pub struct NodeConfig {
     workers: u16,
     watch: Option<u64>,
     front: u16,
+    threads: u16,
 }
 
 impl Model for NodeConfig {
@@ -42,9 +43,9 @@ impl Model for NodeConfig {
 
     ghost Value = { Node };
 
-    ghost view = { λ a. node_of a.name a.addresses (string_bytes a.folder) (map string_bytes a.loads.items) a.tombstones.items a.workers a.watch a.front };
+    ghost view = { λ a. node_of a.name a.addresses (string_bytes a.folder) (map string_bytes a.loads.items) a.tombstones.items a.workers a.watch a.front a.threads };
 
-    ghost invariant = { λ a. IsNode (node_of a.name a.addresses (string_bytes a.folder) (map string_bytes a.loads.items) a.tombstones.items a.workers a.watch a.front) };
+    ghost invariant = { λ a. IsNode (node_of a.name a.addresses (string_bytes a.folder) (map string_bytes a.loads.items) a.tombstones.items a.workers a.watch a.front a.threads) };
 }
 
 impl NodeConfig {
@@ -58,9 +59,10 @@ impl NodeConfig {
         workers: u16,
         watch: Option<u64>,
         front: u16,
+        threads: u16,
     ) -> NodeConfig
-        requires { IsNode (node_of name addresses (string_bytes folder) (map string_bytes loads.items) tombstones.items workers watch front) }
-        ensures { result ≡ node_of name addresses (string_bytes folder) (map string_bytes loads.items) tombstones.items workers watch front }
+        requires { IsNode (node_of name addresses (string_bytes folder) (map string_bytes loads.items) tombstones.items workers watch front threads) }
+        ensures { result ≡ node_of name addresses (string_bytes folder) (map string_bytes loads.items) tombstones.items workers watch front threads }
     {
         NodeConfig {
             name,
@@ -71,6 +73,7 @@ impl NodeConfig {
             workers,
             watch,
             front,
+            threads,
         }
     }
 
@@ -152,6 +155,14 @@ impl NodeConfig {
         ensures valid { IsNode self.now }
     {
         self.front
+    }
+
+    /// How many threads count one query, 1 to 16.
+    pub fn threads(&self) -> u16
+        ensures value { result ≡ self.now.threads }
+        ensures valid { IsNode self.now }
+    {
+        self.threads
     }
 }
 
@@ -408,6 +419,10 @@ impl Config {
 }
 
 /// The names of nodes, in their order.
+///
+/// # Errors
+///
+/// Out of memory.
 pub fn names_in(alloc: Global, nodes: &[NodeConfig]) -> Result<Vec<Name>, AllocError>
     ensures { IfOk result (λ names. names.items ≡ names_of nodes.now) }
 {

@@ -2,12 +2,12 @@
 ghost use Rattle.std.specs.Prelude.{◌≡◌, ◌≤◌, IsTrue, IfSome, codes, option_map};
 ghost use Rattle.serde_json.specs.View.{view};
 ghost use Rattle.druid_segid.specs.Names.{is_name};
-ghost use Rattle.druid_config.specs.Configs.{network_at, address_at, another_at, name_at, tombstone_at, some_at, count_at, rest_at, patience_at, front_at, is_endless, connections_at, place_at, object_at, IsRest, IsPatience};
-ghost use Rattle.druid_config.specs.Limits.{max_front};
+ghost use Rattle.druid_config.specs.Configs.{network_at, address_at, another_at, name_at, tombstone_at, some_at, count_at, rest_at, patience_at, front_at, threads_at, is_endless, connections_at, place_at, object_at, IsRest, IsPatience};
+ghost use Rattle.druid_config.specs.Limits.{max_front, max_threads};
 ghost use Rattle.druid_shard_text.specs.Json.{source_at, interval_at, version_at};
 
 use crate::address::is_address;
-use crate::limits::{MAX_COUNT, MAX_FRONT, MAX_PATIENCE, MAX_REST, USUAL_PATIENCE};
+use crate::limits::{MAX_COUNT, MAX_FRONT, MAX_PATIENCE, MAX_REST, MAX_THREADS, USUAL_PATIENCE};
 use druid_base::{number_field, text_field};
 use druid_segid::{Name, Version};
 use druid_time::Interval;
@@ -202,6 +202,18 @@ pub(crate) fn front_field(value: &Value) -> Option<u16>
     } else {
         None
     }
+}
+
+// How many threads of a node count one query, 1 to 16, 1 where there is no such key.
+pub(crate) fn threads_field(value: &Value) -> Option<u16>
+    ensures value { result ≡ threads_at (view value.now) }
+    ensures some { IfSome result (λ n. 1 ≤ n) }
+    ensures few { IfSome result (λ n. n ≤ max_threads) }
+{
+    let Some(_) = value.get("threads") else {
+        return Some(1);
+    };
+    some_field(value, "threads", MAX_THREADS)
 }
 
 // Whether a cluster does not end: `every` is there, and no `connections`.

@@ -16,6 +16,7 @@ use crate::config::Settings;
 use crate::fields::{
     address_field, another_field, chunk_field, connections_field, count_field, front_field,
     name_field, network_field, object_field, patience_field, place_field, rest_field, some_field,
+    threads_field,
 };
 use crate::limits::{MAX_KEPT, MAX_SERVERS, MAX_WORKERS};
 use druid_base::{TextList, are_texts, doubled_text, list_field, text_field};
@@ -100,6 +101,9 @@ fn node_rule(value: &Value, network: bool) -> Option<NodeRule>
     }
     if another_field(value, "listen", network).is_none() {
         return Some(NodeRule::Listen(rule_of(network)));
+    }
+    if threads_field(value).is_none() {
+        return Some(NodeRule::Threads);
     }
     None
 }
@@ -337,8 +341,9 @@ fn wrong_servers(value: &Value, settings: &Settings) -> Option<BadField>
     }
 }
 
-/// The first field of a value that is wrong, in the order `connections`, `kept`, `turns`, `every`, `patience`, `network`, `nodes`,
-/// `brokers`, `queries`: None exactly where the value is a config. Does not allocate.
+/// The first field of a value that is wrong, in the order `connections`, `kept`, `turns`, `every`,
+/// `patience`, `network`, `nodes`, `brokers`, `queries`: None exactly where the value is a config.
+/// That it is the first is tested. Does not allocate.
 pub fn bad_field_of(value: &Value) -> Option<BadField>
     ensures test { is_none result ≡ is_some (config_at (view value.now)) }
     ensures wrong { IfSome result (λ bad. IsWrong bad (view value.now)) }

@@ -19,7 +19,8 @@ pub use fault::ConfigFault;
 pub use judging::bad_field_of;
 pub use laws::{addresses_name_hosts, addresses_name_ports, configs_are_within_limits};
 pub use limits::{
-    MAX_COUNT, MAX_KEPT, MAX_PATIENCE, MAX_PORT, MAX_REST, MAX_SERVERS, MAX_WORKERS, USUAL_PATIENCE,
+    MAX_COUNT, MAX_KEPT, MAX_PATIENCE, MAX_PORT, MAX_REST, MAX_SERVERS, MAX_THREADS, MAX_WORKERS,
+    USUAL_PATIENCE,
 };
 pub use part::Part;
 pub use reading::{bad_field_in, config_of, read_config};

@@ -24,6 +24,9 @@ pub const USUAL_PATIENCE: u64 = 30_000;
 /// The most front threads of a server.
 pub const MAX_FRONT: u16 = 256;
 
+/// The most threads that one query takes of a node.
+pub const MAX_THREADS: u16 = 16;
+
 /// The last port.
 pub const MAX_PORT: u64 = 65_535;
 

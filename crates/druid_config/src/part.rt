@@ -108,6 +108,10 @@ impl<'a> Part<'a> {
 
     /// The servers that a text names: names of nodes, and `broker:` with the place of a broker, which count from 0, with commas
     /// between. None where one of these names no server of the config.
+    ///
+    /// # Errors
+    ///
+    /// Out of memory.
     pub fn named(
         alloc: Global,
         config: &Config,

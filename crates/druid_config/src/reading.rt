@@ -13,8 +13,12 @@ use druid_base::{JsonFault, parse_json};
 use serde_json::Value;
 use std::alloc::{AllocError, Global};
 
-/// Reads a config: `Refused` where the value is none, and then `Memory`. The value nests at most 127 deep, as each that was
-/// read out of a text does. Other keys are passed over.
+/// Reads a config. The value nests at most 127 deep, as each that was read out of a text does.
+/// Other keys are passed over.
+///
+/// # Errors
+///
+/// `Refused` where the value is none; `Memory` last.
 pub fn config_of(alloc: Global, value: &Value) -> Result<Config, ConfigFault>
     requires { depth (view value.now) ≤ max_depth }
     ensures { Gives result (config_at (view value.now)) }
@@ -28,8 +32,12 @@ pub fn config_of(alloc: Global, value: &Value) -> Result<Config, ConfigFault>
     }
 }
 
-/// Reads a config out of a text: `Refused` where the bytes are no JSON in UTF-8, and where the value is no config. Reading
-/// JSON allocates as it goes, so `Memory` may come before what is to be refused.
+/// Reads a config out of a text.
+///
+/// # Errors
+///
+/// `Refused` where the bytes are no JSON in UTF-8, or the value is no config. Parsing allocates as
+/// it goes: of bytes in UTF-8 `Memory` may come in its place.
 pub fn read_config(alloc: Global, bytes: &[u8]) -> Result<Config, ConfigFault>
     ensures { IsReadOf bytes.now result }
 {
@@ -40,8 +48,12 @@ pub fn read_config(alloc: Global, bytes: &[u8]) -> Result<Config, ConfigFault>
     }
 }
 
-/// The first field of bytes that is wrong, None exactly where they are a config. Reading JSON allocates, so memory may be refused,
-/// of bytes in UTF-8 alone.
+/// The first field of bytes that is wrong, as `bad_field_of` finds it; None exactly where they are
+/// a config.
+///
+/// # Errors
+///
+/// Out of memory, of bytes in UTF-8 alone.
 pub fn bad_field_in(alloc: Global, bytes: &[u8]) -> Result<Option<BadField>, AllocError>
     ensures found { IfOk result (IsFoundIn bytes.now) }
     ensures memory { OnErr result (IsUtf8 bytes.now) }

@@ -47,8 +47,14 @@ fn timeout_at(value: &Value) -> Option<u64>
     some_time(number_field(value.get("context")?, "timeout")?)
 }
 
-/// The milliseconds that a query leaves for its answer, at least 1: the whole number at `timeout` in the object at `context`. `None`
-/// where the bytes are no JSON, or have no such number there, or 0. Out of memory only of bytes in UTF-8 that may have one.
+/// The milliseconds that a query leaves for its answer, at least 1: the whole number at `timeout`
+/// in the object at `context`. `None` where the bytes are no JSON, or have no such number there, or
+/// 0; and of a text that neither spells `timeout` nor has a backslash (that none of these has such
+/// a key is not proved).
+///
+/// # Errors
+///
+/// Out of memory, only of bytes in UTF-8 that may have a timeout.
 pub fn timeout_of(alloc: Global, bytes: &[u8]) -> Result<Option<u64>, AllocError>
     ensures read { IfOk result (λ timeout. (d : Data) → ReadsAs bytes.now d → timeout ≡ timeout_in bytes.now d) }
     ensures none { IfOk result (λ timeout. ((d : Data) → ReadsAs bytes.now d → ⊥) → timeout ≡ None) }

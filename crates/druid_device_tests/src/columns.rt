@@ -69,7 +69,7 @@ fn is_spelled(rt: &impl Abort, alloc: Global, line: &str) -> bool {
 }
 
 #[test]
-fn ample_memory(rt: HostRuntime) {
+fn both_layouts(rt: HostRuntime) {
     for line in spelled().lines() {
         assert!(rt; is_spelled(&rt, rt.alloc(), line), "{line}");
     }

@@ -56,7 +56,7 @@ fn try_size(rt: &impl Abort, alloc: Global, size: usize) {
 }
 
 #[test]
-fn ample_memory(rt: HostRuntime) {
+fn calls_succeed_with_memory(rt: HostRuntime) {
     for size in &SIZES {
         try_size(&rt, rt.alloc(), *size);
     }

@@ -241,7 +241,7 @@ fn links_note_ceilings(rt: HostRuntime) {
 
 // The last of 64 nodes, the greatest times, and nodes beyond.
 #[test]
-fn ample_memory(rt: HostRuntime) {
+fn the_last_node(rt: HostRuntime) {
     let health = Health::new(rt.alloc(), 64, 30_000).expect(&rt, "memory");
     health.note(63, QUERY, Err(WireFault::Read), u64::MAX);
     health.note(64, QUERY, Err(WireFault::Read), 0);

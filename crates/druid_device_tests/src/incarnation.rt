@@ -44,7 +44,7 @@ fn answers_after(rt: &impl Abort, alloc: Global, before: &str, answer: &str, aft
 }
 
 #[test]
-fn ample_memory(rt: HostRuntime) {
+fn next_numbers(rt: HostRuntime) {
     let alloc = rt.alloc();
     assert!(rt; answers(&rt, alloc, &mut MemoryFolder::new(alloc), "1\n", "1\n"));
     for (before, answer, after) in &NUMBERS {

@@ -68,7 +68,7 @@ impl Table for Fuses {
 }
 
 #[test]
-fn ample_memory(rt: HostRuntime) {
+fn exchanges_up_to_a_fuse(rt: HostRuntime) {
     let rows = "9 = one, two, , , 0
 4 = one, two, , , 0
 3 = one, two, , X2: the message could not be read, 1

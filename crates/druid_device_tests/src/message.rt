@@ -53,7 +53,7 @@ fn assert_read_back(rt: &impl Abort, alloc: Global, parameters: usize, body: usi
 }
 
 #[test]
-fn ample_memory(rt: HostRuntime) {
+fn calls_succeed_with_memory(rt: HostRuntime) {
     for size in &SIZES {
         assert_read_back(&rt, rt.alloc(), *size, 0, "true 0");
         assert_read_back(&rt, rt.alloc(), 0, *size, "true 0");

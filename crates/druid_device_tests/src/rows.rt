@@ -341,7 +341,7 @@ fn passes(rt: &impl Abort, segment: &Segment, row: usize, filter: &Filter) -> bo
 }
 
 #[test]
-fn ample_memory(rt: HostRuntime) {
+fn rows_and_filters(rt: HostRuntime) {
     let segment = three_rows(&rt, rt.alloc());
     let filter = not_null(&rt, rt.alloc());
     for (row, reported) in THREE_ROWS.iter().enumerate() {

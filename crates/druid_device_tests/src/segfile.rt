@@ -415,7 +415,7 @@ fn push_many(rt: &impl Abort, bytes: &mut Vec<u8>, number: &[u8], text: &[u8]) {
 }
 
 #[test]
-fn ample_memory(rt: HostRuntime) {
+fn files_written_again(rt: HostRuntime) {
     for digits in [vector(), three_rows()] {
         assert!(rt; is_written_again(&rt, rt.alloc(), &bytes_of(&rt, rt.alloc(), digits)));
     }

@@ -139,7 +139,7 @@ fn try_all<F: Folder>(rt: &impl Abort, alloc: Global, folder: &mut F) {
 
 // Each call that may run out of memory gives its answer, here and on a disk.
 #[test]
-fn ample_memory(rt: HostRuntime) {
+fn calls_succeed_with_memory(rt: HostRuntime) {
     try_all(&rt, rt.alloc(), &mut MemoryFolder::new(rt.alloc()));
 }
 
@@ -175,6 +175,19 @@ fn stops(rt: HostRuntime) {
     assert!(rt; is_left(&rt, rt.alloc(), false, ("a.seg b c d ", "", "c")));
 }
 
+// A call under a name that no file can have has no number for the fuse: the first after it fails, and no other.
+#[test]
+fn fuses_pass_over_names(rt: HostRuntime) {
+    let mut folder = MemoryFolder::new(rt.alloc());
+    folder.fuse(0);
+    assert!(rt; folder.write("a/b", b"x") == Err(StoreFault::BadName));
+    assert!(rt; folder.rename("a", "..") == Err(StoreFault::BadName));
+    assert!(rt; folder.remove("") == Err(StoreFault::BadName));
+    assert!(rt; lacks(rt.alloc(), &mut folder, "/") && folder.faults() == 0);
+    assert!(rt; folder.write("a", b"x") == Err(StoreFault::Device));
+    assert!(rt; folder.write("a", b"x") == Ok(()) && folder.faults() == 1);
+}
+
 // The path of a folder of this run, for one test.
 pub(crate) fn path_for(rt: &HostRuntime, test: &str) -> io::Result<PathBuf> {
     let name = format!(in rt.alloc(); "druid_store_{}_{test}", process::id(rt.process()))?;
@@ -189,7 +202,7 @@ fn fresh_folder(rt: &HostRuntime, path: &PathBuf) -> io::Result<DiskFolder<HostR
 }
 
 #[test]
-fn ample_memory_on_disk(rt: HostRuntime) {
+fn calls_succeed_with_memory_on_disk(rt: HostRuntime) {
     let path = path_for(&rt, "calls").expect(&rt, "a path");
     let mut folder = fresh_folder(&rt, &path).expect(&rt, "a folder");
     try_all(&rt, rt.alloc(), &mut folder);

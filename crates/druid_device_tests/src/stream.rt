@@ -47,7 +47,7 @@ impl Table for LineTexts {
 }
 
 #[test]
-fn ample_memory(rt: HostRuntime) {
+fn lines(rt: HostRuntime) {
     let rows = "=end
 |=,end
 a=a,end
@@ -76,7 +76,7 @@ fn is_part(
 }
 
 #[test]
-fn ample_memory_for_parts(rt: HostRuntime) {
+fn parts_of_lines(rt: HostRuntime) {
     let alloc = rt.alloc();
     assert_row(
         &rt,

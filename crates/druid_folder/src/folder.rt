@@ -1,3 +1,4 @@
+//! Folders of files, as a trait: what stands on one waits for no disk.
 ghost use Rattle.std.specs.Prelude.{◌≡◌, ◌⊎◌, ◌&&◌, IsErrOf, ℕ, ◌+◌, ◌≤◌, List, false, take, length, None, IfOk, IfErr, OnOk, OnErr, IfSome, IsSome, Some, MatchResult, All};
 ghost use Rattle.druid_folder.specs.declared.fault.StoreFault.TheVariants.{Memory};
 ghost use Rattle.druid_folder.specs.FileName.{is_file_name, IsFileName};
@@ -37,6 +38,10 @@ pub trait Folder {
     ghost faults: { Self → ℕ };
 
     /// The names of its files, in the order of their bytes.
+    ///
+    /// # Errors
+    ///
+    /// O1 or O9. Leaves the files, and what a stop may leave.
     fn list(&mut self, alloc: Global) -> Result<Vec<String>, StoreFault>
         ensures file_names { IfOk result (λ names. All IsFileName (names_of names.items)) }
         ensures order { IfOk result (λ names. AreInOrder (names_of names.items)) }
@@ -52,7 +57,11 @@ pub trait Folder {
         ensures fault { IfErr result IsOwnFault };
 
     /// The bytes of a file, or of a file longer than 16 MiB its first 16 MiB and one byte more.
-    /// None where there is no such file, as under a name that no file can have.
+    ///
+    /// # Errors
+    ///
+    /// None where there is no such file, as under a name that no file can have. O1 or O9. Leaves
+    /// the files, and what a stop may leave.
     fn read(&mut self, alloc: Global, name: &str) -> Result<Option<Vec<u8>>, StoreFault>
         ensures no_name { is_file_name name.now ≡ false
             → MatchResult result (λ found. found ≡ None) (λ e. e ≡ Memory) }
@@ -69,9 +78,13 @@ pub trait Folder {
         ensures counted { faults self.new ≡ faults_after result (faults self.old) }
         ensures fault { IfErr result IsOwnFault };
 
-    /// Makes a file of these bytes, in the place of one that has the name. Until the next sync
-    /// that succeeds, a stop may leave any bytes in it, or no such file. After a failure any bytes
-    /// may be read in it.
+    /// Makes a file of these bytes, in the place of one that has the name. Until the next sync that
+    /// succeeds, a stop may leave any bytes in it, or no such file.
+    ///
+    /// # Errors
+    ///
+    /// O4: leaves all as it was. O1 or O9: that file has any bytes or is not there, and all others
+    /// are as they were.
     fn write(&mut self, name: &str, bytes: &[u8]) -> Result<(), StoreFault>
         ensures bad_name { is_file_name name.now ≡ false → IsErrOf result StoreFault.BadName }
         ensures refused { is_file_name name.now ≡ false → is_honest self.new
@@ -90,6 +103,10 @@ pub trait Folder {
         ensures fault { IsFileName name.now → IfErr result IsOwnFault };
 
     /// Makes all that is read stable: from then on a stop leaves it as it is.
+    ///
+    /// # Errors
+    ///
+    /// O1 or O9. Leaves the files; a stop may leave nothing that it might not have left before.
     fn sync(&mut self) -> Result<(), StoreFault>
         ensures stable { is_honest self.new
             → OnOk result (Only (content self.old) (may_leave self.new)) }
@@ -102,8 +119,13 @@ pub trait Folder {
         ensures counted { faults self.new ≡ faults_after result (faults self.old) }
         ensures fault { IfErr result IsOwnFault };
 
-    /// Gives a file another name, in the place of a file that has it. O1 where there is no such
-    /// file. Until the next sync that succeeds, a stop may leave it undone.
+    /// Gives a file another name, in the place of a file that has it. Until the next sync that
+    /// succeeds, a stop may leave it undone.
+    ///
+    /// # Errors
+    ///
+    /// O4: leaves all as it was. O1, also where there is no such file, or O9: it is done or it is
+    /// not.
     fn rename(&mut self, from: &str, to: &str) -> Result<(), StoreFault>
         ensures bad_name { (is_file_name from.now && is_file_name to.now) ≡ false
             → IsErrOf result StoreFault.BadName }
@@ -126,6 +148,10 @@ pub trait Folder {
 
     /// Removes a file, if there is one of that name. Until the next sync that succeeds, a stop may
     /// leave it there.
+    ///
+    /// # Errors
+    ///
+    /// O4: leaves all as it was. O1 or O9: it is done or it is not.
     fn remove(&mut self, name: &str) -> Result<(), StoreFault>
         ensures bad_name { is_file_name name.now ≡ false → IsErrOf result StoreFault.BadName }
         ensures refused { is_file_name name.now ≡ false → is_honest self.new

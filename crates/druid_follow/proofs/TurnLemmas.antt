@@ -115,9 +115,9 @@ module _ {L : Type 0} (step : L → List ℕ → Came → L → Type 0) (opening
   })
 
   -- one that fetched a reply, and then has seen what is published
-  module _ (old read told new : Published) (link after : L) (reply : Body) (goes : IsPrefix old read) (fetched : IsFetchedFrom step (fold_of opening read) node link after (Ok reply))
-      (has_read : IsPrefix read new) (has_told : IsPrefix told new) (one : (new ≡ read) ⊎ (new ≡ told)) where
-    pub published : (r : Result Outcome TurnFault) → IfOk r (λ outcome. (before : Published) × (entry : Entry) × StepsAt (fold_of opening before) node reply outcome entry × (told ≡ before ++ (node, reply) ∷ []))
+  module _ (old read noted new : Published) (link after : L) (reply : Body) (goes : IsPrefix old read) (fetched : IsFetchedFrom step (fold_of opening read) node link after (Ok reply))
+      (has_read : IsPrefix read new) (has_noted : IsPrefix noted new) (one : (new ≡ read) ⊎ (new ≡ noted)) where
+    pub published : (r : Result Outcome TurnFault) → IfOk r (λ outcome. (before : Published) × (entry : Entry) × StepsAt (fold_of opening before) node reply outcome entry × (noted ≡ before ++ (node, reply) ∷ []))
         → IfOk r (TakesSharedTurn step opening node old new link after)
     published (Ok outcome) (before, entry, steps, is) = record {
       read = read;
@@ -128,20 +128,20 @@ module _ {L : Type 0} (step : L → List ℕ → Came → L → Type 0) (opening
       entry = entry;
       steps = steps;
       has_read = has_read;
-      has_reply = subst (λ (l : Published). IsPrefix l new) is has_told;
+      has_reply = subst (λ (l : Published). IsPrefix l new) is has_noted;
       one = subst (λ (l : Published). (new ≡ read) ⊎ (new ≡ l)) is one;
     }
     published (Err fault) so = tt
 
-    pub unpublished : (r : Result Outcome TurnFault) → IfErr r (RefusesTurn (fold_of opening told) node reply) → IfErr r (FailsSharedTurn step opening node old new link after)
+    pub unpublished : (r : Result Outcome TurnFault) → IfErr r (RefusesTurn (fold_of opening noted) node reply) → IfErr r (FailsSharedTurn step opening node old new link after)
     unpublished (Ok outcome) refused = tt
     unpublished (Err fault) refused = inr (record {
       read = read;
       goes_on = goes;
-      before = told;
-      fails = turn_refused (IsFetchedFrom step (fold_of opening read) node link after) (fold_of opening told) node reply fault fetched refused;
+      before = noted;
+      fails = turn_refused (IsFetchedFrom step (fold_of opening read) node link after) (fold_of opening noted) node reply fault fetched refused;
       has_read = has_read;
-      has_before = has_told;
+      has_before = has_noted;
       one = one;
     })
 

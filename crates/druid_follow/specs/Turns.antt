@@ -57,7 +57,7 @@ IsNoResponse bytes fault =
     HasFault ResponseSays bytes fault × IsOfBytes fault × ((status : ℕ) (body rest : List ℕ) → IsResponse bytes status body rest → ⊥)
 
 -- what came back is a reply, or why it is none: the link failed or the bytes are no response, the status is another, or the
--- body does not read. Memory is wanted by the link, or to read a body
+-- body does not read. Memory is wanted by the link, or to read a body in UTF-8
 abbrev pub IsAnswerTo : Came → Result Body TurnFault → Type 0
 IsAnswerTo came (Ok reply) = (bytes body : List ℕ) × (came ≡ Ok bytes) × Responds bytes 200 body × IsReadOf body (Ok reply)
 IsAnswerTo came (Err (Wire fault)) =
@@ -68,7 +68,9 @@ IsAnswerTo came (Err (Reply fault)) =
 IsAnswerTo came (Err PageLost) = ⊥
 IsAnswerTo came (Err (Apply fault)) = ⊥
 IsAnswerTo came (Err NoReading) = ⊥
-IsAnswerTo came (Err Memory) = (came ≡ Err wire.Memory) ⊎ ((bytes body : List ℕ) × (came ≡ Ok bytes) × Responds bytes 200 body)
+IsAnswerTo came (Err Memory) =
+    (came ≡ Err wire.Memory)
+    ⊎ ((bytes body : List ℕ) × (came ≡ Ok bytes) × Responds bytes 200 body × IsReadOf body (Err sync.Memory))
 
 -- one exchange leads the link from old to new, and is reported
 pub record IsReported {L : Type 0} (step : L → List ℕ → Came → L → Type 0) (request : RequestValue) (old new : L) (answer : Result Body TurnFault) : Type 0 where

@@ -1,4 +1,6 @@
-//! A thread that follows a node, turn after turn.
+//! A thread that follows a node, turn after turn. Of a loop that nothing leaves every `ensures`
+//! holds, and so says nothing: with `ends`, `follow_on` says that it returned because that was
+//! true, and a caller whose `ends` never is goes on for ever.
 ghost use Rattle.std.specs.Prelude.{◌≡◌, ◌<◌, ◌≤◌, ◌+◌, ◌-◌, ◌^◌, true, List, length};
 ghost use Rattle.std.specs.Result.{is_err};
 ghost use mathlib.Core.List.{IsPrefix};

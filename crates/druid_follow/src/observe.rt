@@ -1,4 +1,5 @@
-//! What a turn showed, for whoever logs it or counts it.
+//! What a turn showed, for whoever logs it or counts it. A fallen mark is seen by the marks and not
+//! by the outcome: `AlreadyHave` is one of turns in which nothing happened, too.
 ghost use Rattle.std.specs.Prelude.{◌≡◌, ◌↔◌, IsTrue, option_map, slice_get};
 ghost use Rattle.std.specs.declared.cmp.Ordering.TheVariants.{Less};
 ghost use Rattle.druid_shard.specs.Mark.{mark_cmp};

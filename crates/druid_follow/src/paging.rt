@@ -1,4 +1,5 @@
-//! The pages of a snapshot, asked for one after another.
+//! The pages of a snapshot, asked for one after another over one link. Where one is lost nothing is
+//! kept: the next turn begins with page 0, which the node answers from the set that it froze.
 ghost use Rattle.std.specs.Prelude.{◌≡◌, ◌⊎◌, ◌↔◌, ◌-◌, ◌≤◌, ◌∷◌, [], ℕ, IsTrue, IfOk, IfErr, Some};
 ghost use Rattle.druid_shard.specs.Mark.{Point};
 ghost use Rattle.druid_shard.specs.declared.change.Ask.TheVariants.{Whole};

@@ -144,11 +144,16 @@ fn marked_turn<W: Wait, J: Publication, R: Wait + Drop, L: Link>(
     turned.0
 }
 
-/// A turn of one of the threads that share a publisher: fetches what changed of a node by what the view reads, page by page where it
-/// is sent so, in at most 11 exchanges, while nothing waits for the publisher; publishes it under the lock; and tells the view what is
-/// published then, where it is refused too. K3 where the reply is not applied to what is published; K6 where the view has no reading,
-/// also once all was shown again; K9 where memory runs out; and else the faults of `fetch`, K5 of a page that is lost among them; then
-/// what is published stays as it was.
+/// A turn of one of the threads that share a publisher: fetches what changed of a node by what the
+/// view reads, page by page where it is sent so, in at most 11 exchanges, while nothing waits for
+/// the publisher; publishes it under the lock; and tells the view what is published then, where it
+/// is refused too.
+///
+/// # Errors
+///
+/// K6 where the view has no reading, also once all was shown again, or K9: then the view and the
+/// link are as they were; then those of `sync_turn`, with the link as there, and the view has seen
+/// what it read and what is published. What is published stays (read in the code).
 pub fn shared_turn<W: Wait, J: Publication, R: Wait + Drop, L: Link>(
     rt: &W,
     alloc: Global,
@@ -167,6 +172,10 @@ pub fn shared_turn<W: Wait, J: Publication, R: Wait + Drop, L: Link>(
 }
 
 /// The same, and shows what it gave, and the marks of the node, to an observer.
+///
+/// # Errors
+///
+/// Those of `shared_turn`.
 pub fn observed_turn<W: Wait, J: Publication, R: Wait + Drop, L: Link, O: Observe>(
     rt: &W,
     alloc: Global,

@@ -45,11 +45,16 @@ fn ask_node<L: Link>(alloc: Global, ask: &Ask, link: &mut L) -> Result<Reply, Tu
     follow_pages(alloc, path, reply, link)
 }
 
-/// Asks a node for what changed after its mark in the inventory, or for all where it was never synced. A reset is followed: all
-/// is asked for then, once, in the same call. Page 0 of a snapshot is followed by its other pages, in order, and the snapshot that
-/// they are is given; so there are at most 11 exchanges. K1 where the link fails or what comes back is no response, K4 where its
-/// status is not 200, K2 where its body is no reply, K5 where the reply is a page that was not asked for, or not the page that was,
-/// K3 of A7 where pages differ, K9 where memory runs out.
+/// Asks a node for what changed after its mark in the inventory, or for all where it was never
+/// synced. A reset is followed: all is asked for then, once, in the same call. Page 0 of a snapshot
+/// is followed by its other pages, in order, and the snapshot that they are is given; so there are
+/// at most 11 exchanges.
+///
+/// # Errors
+///
+/// Of each exchange K1 where the link fails or what comes back is no response, then K4, then K2
+/// with Y1 to Y5 or Y7; K5; K3 with A7; K9, which may come in place of K2. The link has made its
+/// exchanges, and none where K9 came for the first request.
 pub fn fetch<L: Link>(
     alloc: Global,
     inventory: &Inventory,
@@ -71,8 +76,12 @@ fn entry_target(alloc: Global, node: NodeNo) -> Result<String, AllocError>
     format!(in alloc; "/druid-internal/v1/inventory/{node}")
 }
 
-/// Asks a peer broker for what it knows of a node, `GET /druid-internal/v1/inventory/{node}`. Pages are followed as in `fetch`, in at
-/// most 10 exchanges; the faults as there.
+/// Asks a peer broker for what it knows of a node, `GET /druid-internal/v1/inventory/{node}`. Pages
+/// are followed as in `fetch`, in at most 10 exchanges.
+///
+/// # Errors
+///
+/// Those of `fetch`.
 pub fn fetch_entry<L: Link>(alloc: Global, peer: &mut L, node: NodeNo) -> Result<Reply, TurnFault>
     ensures { IsAsked L.exchanges (entry_request node) Whole peer.old peer.new result }
 {
@@ -116,9 +125,13 @@ fn fetch_change<J: Publication, R: Wait + Drop, L: Link>(
     fetch(alloc, publisher.inventory(), node, link)
 }
 
-/// Fetches what changed of a node, page by page where it is sent so, in at most 11 exchanges, and publishes it; the receipt tells what
-/// is published then. K3 where the reply is not applied, and else the faults of `fetch`, K5 of a page that is lost among them; then
-/// what is published stays as it was.
+/// Fetches what changed of a node, page by page where it is sent so, in at most 11 exchanges, and
+/// publishes it; the receipt tells what is published then.
+///
+/// # Errors
+///
+/// Those of `fetch`; then K3 with A3, A2, A4, A6 or A5; K9 last. Leaves what is published; the link
+/// as `fetch` does.
 pub fn sync_turn<J: Publication, R: Wait + Drop, L: Link>(
     alloc: Global,
     node: NodeNo,
@@ -138,8 +151,12 @@ pub fn sync_turn<J: Publication, R: Wait + Drop, L: Link>(
     }
 }
 
-/// Fetches what a peer broker knows of a node, page by page where it is sent so, in at most 10 exchanges, and publishes it as a reply
-/// of that node; the faults as for `sync_turn`.
+/// Fetches what a peer broker knows of a node, page by page where it is sent so, in at most 10
+/// exchanges, and publishes it as a reply of that node.
+///
+/// # Errors
+///
+/// Those of `sync_turn`.
 pub fn seed_turn<J: Publication, R: Wait + Drop, L: Link>(
     alloc: Global,
     node: NodeNo,

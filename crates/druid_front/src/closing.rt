@@ -1,4 +1,5 @@
-//! How a connection ends whose request was refused before all of it was read.
+//! How a connection ends whose request was refused before all of it was read. Of a body that goes
+//! on past what is read on, the answer may still be lost.
 ghost use Rattle.druid_stream.specs.Taken.{TakesAtMost};
 ghost use Rattle.druid_front.specs.Closing.{max_closing};
 

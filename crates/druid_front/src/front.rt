@@ -73,6 +73,10 @@ pub struct Connection {
 }
 
 /// A front of so many threads, a place for each, and where workers find its jobs.
+///
+/// # Errors
+///
+/// Out of memory.
 pub fn open(alloc: Global, threads: u16) -> Result<(Front, Vec<Place>, Jobs), AllocError>
     ensures { IfOk result (λ front. vec_len front.1 ≡ threads) }
 {
@@ -196,9 +200,15 @@ impl Front {
         unreachable!()
     }
 
-    /// Reads the request of a connection whole, hands it to a worker, writes the answer, and closes the connection: the status of the
-    /// answer, where it was written whole. A connection is closed without an answer whose request does not come whole within its
-    /// time, or that is closed for another's sake. (What a socket gets no clause can say; `send` says it of any stream.)
+    /// Reads the request of a connection whole, hands it to a worker, writes the answer, and closes
+    /// the connection: the status of the answer, where it was written whole. (What a socket gets no
+    /// clause can say; `send` says it of any stream.)
+    ///
+    /// # Errors
+    ///
+    /// None where the request does not come whole within its time, the connection was closed for
+    /// another's sake, no worker answered, the answer was not taken, the clock cannot be read, or
+    /// memory runs out. The connection is closed; the client may have some front of the answer.
     pub fn serve<R: Wait + Clock>(
         &self,
         rt: &R,

@@ -1,4 +1,5 @@
-//! Requests on their way to a worker, and answers on their way back.
+//! Requests on their way to a worker, and answers on their way back. A request is handed over as
+//! bytes, which the worker reads again: so what a server answers is one function over any reader.
 ghost use Rattle.std.specs.Prelude.{◌≡◌, List};
 ghost use Rattle.std.specs.List.{FoldsTo};
 ghost use Rattle.druid_wire.specs.Missing.{IsAnswerable};
@@ -105,8 +106,12 @@ impl Jobs {
         Jobs { queue, life }
     }
 
-    /// Waits for the next job, in the order in which they were handed over. None once the front is gone. (What stands in a queue no
-    /// clause can say, but what the type of a job says of it.)
+    /// Waits for the next job, in the order in which they were handed over. (What stands in a queue
+    /// no clause can say, but what the type of a job says of it.)
+    ///
+    /// # Errors
+    ///
+    /// None once the front is gone.
     pub fn take<R: Wait>(&self, rt: &R) -> Option<Job> {
         match self.queue.recv(rt) {
             Ok(job) => Some(job),

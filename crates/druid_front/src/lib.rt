@@ -1,4 +1,7 @@
-//! What stands between a server and those who connect to it: threads that wait for clients, so that a worker never does.
+//! What stands between a server and those who connect to it: threads that wait for clients, so that
+//! a worker never does. Each holds one connection, also while it waits for a worker: so memory has
+//! a bound that a config names, an answer goes back the way its request came, and no readiness of
+//! sockets (`epoll`) is trusted.
 #![tactic(auto)]
 
 mod closing;

@@ -1,4 +1,6 @@
-//! What each front thread does, and whose connection is closed where none is free.
+//! What each front thread does, and whose connection is closed where none is free. No byte makes a
+//! wait begin anew, or a client that drips would outlive one that uploads; the grace keeps quick
+//! clients from closing each other.
 ghost use Rattle.std.specs.Prelude.{◌≡◌, ◌<◌, ℕ, ◌≤◌, ◌↔◌, length, All, IsTrue, false, IfOk, IfSome, IfNone, None, Some, slice_get, slice_set, take};
 ghost use Rattle.druid_front.specs.Seats.{WaitsSince, IsFree, AreHeld, IsLongest, Closes, NoneCloses, earlier_of};
 
@@ -39,6 +41,10 @@ impl Model for Seats {
 
 impl Seats {
     /// So many threads, all free.
+    ///
+    /// # Errors
+    ///
+    /// Out of memory.
     pub fn new(alloc: Global, threads: usize) -> Result<Seats, AllocError>
         ensures count { IfOk result (λ seats. length seats ≡ threads) }
         ensures free { IfOk result (λ seats. All (λ seat. seat ≡ Seat.Free) seats) }
@@ -100,7 +106,7 @@ impl Seats {
     }
 
     /// Where no thread is free for a connection, and one waits for its client for `GRACE` or longer: that whose wait began first is
-    /// closed, and its place told. None where a thread is free, or none waits for so long.
+    /// closed, and its place given. None where a thread is free, or none waits for so long.
     pub fn close_longest(&mut self, now: u64) -> Option<usize>
         ensures some { IfSome result (λ place. Closes now place self.old self.new) }
         ensures kept { IfNone result (self.new ≡ self.old) }

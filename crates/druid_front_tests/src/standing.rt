@@ -1,4 +1,4 @@
-//! A front over a socket of this machine, and a worker behind it.
+//! A front over a socket of this machine, and a worker that it feeds.
 ghost use Rattle.std.specs.Prelude.{◌≡◌, [], IfSome};
 ghost use Rattle.druid_front.specs.Answers.{IsAnswer};
 

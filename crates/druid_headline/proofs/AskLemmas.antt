@@ -59,7 +59,7 @@ answer_of_history state next ask status body reply back (inl responds) reported 
     let response = subst (λ (text : List ℕ). IsResponse text 200 reported.1 reported.3.0) (sym (same_ok reported.2)) reported.3.1 in
     of_history state next ask status body reported.1 reported.3.0 reply found response reported.4
 answer_of_history state next ask status body reply back (inr memory) reported =
-    let is = memory.status_is in
+    let is = memory.1.status_is in
     let response = subst (λ (text : List ℕ). IsResponse text 200 reported.1 reported.3.0) (sym (same_ok reported.2)) reported.3.1 in
     let no = (written_is status body reported.1 reported.3.0 (omega (arith, is)) (omega (arith, is)) response).0 in
     absurd (omega (arith, is, no))

@@ -181,5 +181,5 @@ pub honest_in_turn : (state next : State) (query : Query) (asked : List Asked) (
     → IsHonest query segments (record { node = node; asked = asked; came = Ok (wire.answer_text status body) })
 honest_in_turn state next query asked node status body segments is pieces words (inl responds) among = honest state next query asked node status body segments is pieces words responds among
 honest_in_turn state next query asked node status body segments is pieces words (inr memory) among =
-    let reported_500 = memory.status_is in
+    let reported_500 = memory.1.status_is in
     other_status query asked node status body segments (omega (arith, reported_500)) (omega (arith, reported_500)) (λ ok. omega (arith, reported_500, ok))

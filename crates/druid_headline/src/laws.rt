@@ -1,4 +1,5 @@
-//! The sentences that a user of a broker relies on.
+//! The sentences that a user of a broker relies on. What nodes serve is one list of segments, one
+//! of each identifier: that replicas of one identifier hold the same rows is a premise.
 ghost use Rattle.std.specs.Prelude.{◌≡◌, ◌⊎◌, ◌++◌, ℕ, List, Some, Ok, length, map, slice_get};
 ghost use Rattle.druid_shard.specs.declared.change.Ask.{Ask};
 ghost use Rattle.druid_shard.specs.declared.change.Ask.TheVariants.{Whole};
@@ -43,7 +44,7 @@ pub fn readers_agree()
 
 /// What `serve_one` answers to a query that is posted is what is defined over the world, at the marks of the list that its view has seen
 /// after the call, where the replies of that list are honest in the world and the broker and the world have one list of nodes; or 500,
-/// where the view was given no reading or memory ran out.
+/// where the view was given no reading or memory ran out. (What was asked, and what is missing by the plan, is in `RespondsBy`.)
 pub fn queries_are_exact<L: Link>()
     ensures { (order : List ℕ → List ℕ) (world : List Life) (names : List (List ℕ)) (seen now : Published) (request : RequestValue) (asked : Query)
         (old new : List L) (status : ℕ) (body : List ℕ)

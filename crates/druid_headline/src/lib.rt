@@ -1,5 +1,5 @@
-//! The sentences that a user of a cluster relies on, over the definitions of all crates. They are facts about definitions, and no
-//! code stands on them.
+//! The sentences that a user of a cluster relies on, over the definitions of all crates. They are
+//! facts about definitions, and no code stands on them.
 #![tactic(auto)]
 
 mod laws;

@@ -1,4 +1,4 @@
--- What a node tells of itself, and what it answers out of memory.
+-- What a node tells of itself, and what it answers.
 use Rattle.std.proofs.Common.{◌≡◌, ◌≤◌, inl, inr, ℕ, Bool, true, false, cond, nat_le, List, length, take, All, Some, None, option_map, option_and_then, Option, Result, Ok, Err, Vec, codes, refl, sym, ap, ◌∙◌, subst, arith}
 use Rattle.std.specs.Option.{unwrap_or}
 use Rattle.std.proofs.lemmas.Bool.{leb-true, leb-false}
@@ -81,11 +81,6 @@ pub answer_reported : (state next : State) (request : RequestValue) (status : �
 answer_reported state next request status body (Ok text) small freezes responds is =
     (status, body, inl (subst (λ (s : State). Responds state s request status body) (unfrozen state next small freezes) responds), is)
 answer_reported state next request status body (Err fault) small freezes responds is = tt
-
-pub memory_reported : (state : State) (request : RequestValue) (r : Result (Vec ℕ Global) WireFault) → IfOk r (λ text. text.items ≡ answer_text 500 (codes "{\"error\":\"Memory\"}"))
-    → IfOk r (λ text. (status : ℕ) × (body : List ℕ) × RespondsInTurn state state request status body × (text.items ≡ answer_text status body))
-memory_reported state request (Ok text) is = (500, codes "{\"error\":\"Memory\"}", inr (record { status_is = refl; body_is = refl }), is)
-memory_reported state request (Err fault) is = tt
 
 same_set : (at other : Point) (a b : List Described) → Path Body (Snapshot at a) (Snapshot other b) → a ≡ b
 same_set at other a b e = cc

@@ -78,7 +78,7 @@ fn text_of(alloc: Global, status: StatusCode, body: &[u8]) -> Result<Vec<u8>, Wi
     }
 }
 
-// What a node answers to a request, out of memory included.
+// What a node answers to a request.
 fn response_to(
     alloc: Global,
     state: &mut NodeState,
@@ -92,11 +92,7 @@ fn response_to(
 {
     match state.respond(request) {
         Ok(answer) => text_of(alloc, answer.0, &answer.1),
-        Err(_) => text_of(
-            alloc,
-            StatusCode::INTERNAL_SERVER_ERROR,
-            b"{\"error\":\"Memory\"}",
-        ),
+        Err(_) => Err(WireFault::Memory),
     }
 }
 

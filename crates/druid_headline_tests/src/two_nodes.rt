@@ -111,7 +111,7 @@ fn is_answer(bytes: &[u8], wanted: &[u8]) -> bool {
 }
 
 #[test]
-fn ample_memory(rt: HostRuntime) {
+fn no_row_counts_twice(rt: HostRuntime) {
     let alloc = rt.alloc();
     let written = asked(
         &rt,

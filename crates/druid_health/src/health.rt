@@ -1,4 +1,5 @@
-//! What the threads of a broker remember of its nodes.
+//! What the threads of a broker remember of its nodes: of each one word, so that a note or a try is
+//! not torn and no query takes a lock.
 ghost use Rattle.std.specs.Prelude.{◌≡◌, ◌≤◌, IfOk, vec_len};
 ghost use Rattle.druid_health.specs.Limits.{max_nodes, pause_of};
 
@@ -120,6 +121,10 @@ fn cells(alloc: Global, count: usize, word: u64) -> Result<Vec<AtomicCell<u64>>,
 impl Health {
     /// Of nodes 0 to `nodes` less one, all well, with which an exchange may take so many milliseconds. The pause between two tries
     /// of one that ails is as long, and a second at least.
+    ///
+    /// # Errors
+    ///
+    /// Out of memory.
     pub fn new(alloc: Global, nodes: u16, patience: u64) -> Result<Health, AllocError>
         requires { nodes ≤ max_nodes }
         ensures { IfOk result (λ health. health ≡ record { nodes = nodes; patience = patience; pause = pause_of patience }) }
@@ -183,8 +188,11 @@ impl Health {
         }
     }
 
-    /// How many exchanges with a node met a limit since this was last asked of it. `None` where none did, and of a node that is not
-    /// remembered.
+    /// How many exchanges with a node met a limit since this was last asked of it.
+    ///
+    /// # Errors
+    ///
+    /// None where none did, and of a node that is not remembered.
     pub fn take_oversize(&self, node: u16) -> Option<Oversize> {
         let answers = taken(self.answers.get(node as usize)?);
         let questions = taken(self.questions.get(node as usize)?);
@@ -229,13 +237,21 @@ impl Health {
         }
     }
 
-    /// Whether a node ails. `None` of one that is not remembered.
+    /// Whether a node ails.
+    ///
+    /// # Errors
+    ///
+    /// None of a node that is not remembered.
     pub fn ails(&self, node: u16) -> Option<bool> {
         let word = self.marks.get(node as usize)?.load();
         Some(Mark::from_word(word).ails())
     }
 
-    /// How the exchanges with a node ended so far. `None` of one that is not remembered.
+    /// How the exchanges with a node ended so far.
+    ///
+    /// # Errors
+    ///
+    /// None of a node that is not remembered.
     pub fn counts(&self, node: u16) -> Option<Counts> {
         let node = node as usize;
         if self.marks.len() <= node {

@@ -1,4 +1,6 @@
-//! Which nodes failed lately: noted of each exchange, remembered without a lock, and asked before each query.
+//! Which nodes failed lately: noted of each exchange, remembered without a lock, and asked before
+//! each query. A node that ails is asked last, and after each pause one query tries it in its turn,
+//! so that one that hangs holds about one worker at a time.
 #![tactic(auto)]
 
 mod ceiling;

@@ -1,4 +1,7 @@
-//! What is remembered of the exchanges with a node, as a value.
+//! What is remembered of the exchanges with a node, as a value: the cells around it do nothing
+//! else. X2, X3 and X8 mark a node. X9 is the broker's own and says nothing, and with all others
+//! the node was there. What a syncer's success clears is what syncers noted alone, since a node may
+//! answer what it serves and hang on queries.
 ghost use Rattle.std.specs.Prelude.{◌≡◌, ◌≤◌, ◌<◌, ◌^◌, ◌/◌, ◌%◌, IsTrue, ◌↔◌};
 ghost use Rattle.druid_health.specs.Marks.{Mark, well, ails, capped, after, after_fault, after_failure, after_success, after_cut, standing, after_try, is_tried_since, untried, word_of, digit};
 ghost use Rattle.druid_health.specs.Limits.{last_milli};

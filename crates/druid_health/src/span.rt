@@ -1,4 +1,6 @@
-//! How long an exchange took, and whether a query let it take longer.
+//! How long an exchange took, and whether a query let it take longer. A query of little time marks
+//! no node that takes longer than it has; syncers, who have the whole patience, mark one that
+//! hangs.
 ghost use Rattle.std.specs.Prelude.{◌≡◌};
 ghost use Rattle.druid_health.specs.Spans.{is_cut, is_late};
 

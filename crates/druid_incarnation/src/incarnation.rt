@@ -1,3 +1,4 @@
+//! The number of a node's incarnation, which is stable in a folder before it is given.
 ghost use Rattle.std.specs.Prelude.{◌≡◌, ◌≢◌, Option, ◌⊎◌, ◌+◌, ◌-◌, ◌^◌, ◌<◌, ◌≤◌, ◌++◌, ℕ, List, Some, None, IfOk, OnOk, IsErrOf, IfErr, IfSome, IfNone, string_bytes};
 ghost use Rattle.std.specs.Fmt.{decimal};
 ghost use Rattle.druid_folder.specs.Folder.{Content, with_file, renamed, Torn, DoneOrNot, Only, SameLeft, LeavesOnly, faults_after, IsOwnFault};
@@ -14,14 +15,18 @@ const NUMBER_FILE: &str = "incarnation";
 /// The file that a number is written to first. It is never read.
 const NEXT_FILE: &str = "incarnation.tmp";
 
-/// A number for a start of the program that no earlier start was given: the one after the number
-/// in the file `incarnation` of the folder, or 1 where there is no such file. That file then has
-/// it, and only then is it answered.
+/// A number for a start of the program that no earlier start was given: the one after the number in
+/// the file `incarnation` of the folder, or 1 where there is no such file. That file then has it,
+/// and only then is it answered.
 ///
-/// Errors: O2 where the file is there and is no number from 1 to 2^64 - 1 in decimal digits, with
-/// no zero in front, and a line feed; O3 where it is 2^64 - 1; O1 where the device fails, and O9.
-/// After O2 and O3 the folder is as it was. After O1 and O9 the file has the old number or the new
-/// one, which nobody was given.
+/// # Errors
+///
+/// O1 or O9 of the read; then O2 where the file is there and is no number from 1 to 2^64 - 1 in
+/// decimal digits, with no zero in front, and a line feed; O3 where it is 2^64 - 1; then O1 or O9
+/// of the steps after (that none comes between is read in the code). O2 and O3 leave the folder as
+/// it was. O1 and O9 leave `incarnation` as it was or with the next number, which nobody was given,
+/// and all other files but `incarnation.tmp` as they were; a stop at any moment leaves
+/// `incarnation` as it might have before, or with the next number.
 pub fn next_incarnation<F: Folder>(alloc: Global, folder: &mut F) -> Result<u64, StoreFault>
     ensures answer { F.is_honest folder.new → Answers (F.content folder.old number_file) result }
     ensures stored { F.is_honest folder.new

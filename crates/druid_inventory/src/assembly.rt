@@ -8,7 +8,7 @@ use crate::ApplyFault;
 use crate::replies::snapshot_of;
 use druid_pages::{Assembly as Pages, PageFault};
 use druid_shard::{Body, Descriptor, Mark, Reply};
-use std::alloc::Global;
+use std::alloc::{AllocError, Global};
 use std::marker::Model;
 
 /// The pages of a snapshot of a node that have come so far, in any order: of the latest mark that any page had.
@@ -26,6 +26,16 @@ impl Model for Assembly {
     ghost view = { λ a. a.pages };
 }
 
+impl Clone for Assembly {
+    ghost is_clone = { λ assembly copy. copy ≡ assembly };
+
+    fn clone(&self) -> Result<Assembly, AllocError> {
+        Ok(Assembly {
+            pages: self.pages.clone()?,
+        })
+    }
+}
+
 impl Assembly {
     /// No page has come.
     pub fn new(alloc: Global) -> Assembly
@@ -36,11 +46,15 @@ impl Assembly {
         }
     }
 
-    /// Takes a reply that is a page, whatever its place, and gives the snapshot at its mark once all pages have come: then it
-    /// keeps none. A page of a later mark than those that have come begins anew, and one of an earlier mark is passed over, as
-    /// is one that has come before. A7 where a page of their mark is one of another number of pages, has other segments than
-    /// when it came before, or completes pages that do not rise from one to the next; and A9 last. A page that is refused
-    /// leaves all as it was.
+    /// Takes a reply that is a page, whatever its place, and gives the snapshot at its mark once
+    /// all pages have come: then it keeps none. A page of a later mark than those that have come
+    /// begins anew, and one of an earlier mark is passed over, as is one that has come before.
+    ///
+    /// # Errors
+    ///
+    /// A7 where a page of their mark is one of another number of pages, has other segments than
+    /// when it came before, or completes pages that do not rise from one to the next; A9 last.
+    /// Leaves all as it was.
     pub fn take(&mut self, reply: &Reply) -> Result<Option<Reply>, ApplyFault>
         requires { IsPageReply reply.now }
         ensures ok { IfOk result (λ given. TakesReply self.old reply.now given self.new) }

@@ -1,4 +1,5 @@
-//! A timeline while what is held of its source changes: edit by edit, or swept once where many changes come.
+//! A timeline while what is held of its source changes: edit by edit, or swept once where many
+//! changes come. A delta goes edit by edit always, since it may be rolled back.
 ghost use Rattle.std.specs.Prelude.{◌≡◌, ◌↔◌, [], IsTrue, IfOk, IfSome, OnOk};
 ghost use Rattle.druid_timeline.specs.Holding.{held_of, HoldsNothing, IsHeld, IsServed, AddsHeld, RemovesHeld};
 ghost use Rattle.druid_inventory.specs.Ways.{serving_in};

@@ -1,3 +1,5 @@
+//! Why there is no inventory, why a reply is not applied and inventories are not joined; and what a
+//! reply did.
 ghost use Rattle.std.specs.Prelude.{◌≡◌};
 ghost use Rattle.druid_inventory.specs.declared.fault.InventoryFault.TheVariants as new_fault;
 ghost use Rattle.druid_inventory.specs.declared.fault.ApplyFault.TheVariants as apply_fault;

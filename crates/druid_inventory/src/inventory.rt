@@ -1,3 +1,6 @@
+//! Inventories: `apply` and `join` share what stays, for readers beside them; `advance` edits in
+//! place. Equality and the search for conflicts walk what is shared too, since the kit has no
+//! `Arc::ptr_eq`.
 ghost use Rattle.std.specs.Prelude.{◌≡◌, ◌≢◌, ◌↔◌, ◌⊎◌, ◌≤◌, ◌<◌, ℕ, List, IsTrue, IfOk, IfErr, IfSome, OnOk, OnErr, IsErrOf, IsSome, Err, None, Some, Contains, length, map, option_copied, option_map, slice_get, slice_set, vec_len};
 ghost use Rattle.std.specs.Arc.{arc_value};
 ghost use Rattle.std.specs.Ordering.{nat_cmp};
@@ -93,7 +96,11 @@ fn fresh_entries(alloc: Global, names: Vec<Name>) -> Result<Vec<Arc<Known, Globa
 }
 
 impl Inventory {
-    /// The inventory of a list of nodes, none of which was synced. V1 where a name stands twice, and V9 last.
+    /// The inventory of a list of nodes, none of which was synced.
+    ///
+    /// # Errors
+    ///
+    /// V1; V9 last.
     pub fn new(alloc: Global, names: Vec<Name>) -> Result<Inventory, InventoryFault>
         requires some { 1 ≤ vec_len names }
         requires few { vec_len names ≤ max_nodes }
@@ -191,7 +198,11 @@ impl Inventory {
         self.entries().len() as NodeNo
     }
 
-    /// How far a node's history has been followed; None where the list has no such node. Does not allocate.
+    /// How far a node's history has been followed. Does not allocate.
+    ///
+    /// # Errors
+    ///
+    /// None where the list has no such node.
     pub fn mark(&self, node: NodeNo) -> Option<Mark>
         ensures { result ≡ option_map (λ e. e.mark) (slice_get self.now node) }
     {
@@ -199,7 +210,11 @@ impl Inventory {
         Some(known.mark())
     }
 
-    /// What a node serves at its mark, by identifier; None where the list has no such node. Does not allocate.
+    /// What a node serves at its mark, by identifier. Does not allocate.
+    ///
+    /// # Errors
+    ///
+    /// None where the list has no such node.
     pub fn segments(&self, node: NodeNo) -> Option<&[Descriptor]>
         ensures value { option_map (λ set. set.now) result ≡ option_map (λ e. e.set) (slice_get self.now node) }
         ensures sorted { IfSome result (λ set. AreSorted set.now) }
@@ -209,7 +224,11 @@ impl Inventory {
         Some(known.set())
     }
 
-    /// The timeline of a data source; None exactly where no node serves a segment of it. Does not allocate.
+    /// The timeline of a data source. Does not allocate.
+    ///
+    /// # Errors
+    ///
+    /// None where no node serves a segment of it.
     pub fn timeline(&self, source: &Name) -> Option<&Timeline>
         ensures some { IsSome result ↔ HasSource self.now source.now }
         ensures source { IfSome result (λ timeline. timeline.now.source ≡ source.now) }
@@ -220,6 +239,10 @@ impl Inventory {
     }
 
     /// The data sources of which some node serves a segment, rising, each once.
+    ///
+    /// # Errors
+    ///
+    /// Out of memory.
     pub fn sources(&self) -> Result<Vec<Name>, AllocError>
         ensures all { IfOk result (λ sources. (source : List ℕ)
             → Contains sources.items source ↔ HasSource self.now source) }
@@ -228,9 +251,13 @@ impl Inventory {
         names_of(self.alloc, &self.timelines)
     }
 
-    /// What a reply of a node makes of the inventory, and its outcome. A reset and a page change nothing. A1 where the list
-    /// has no such node; then for a delta A3, A2, and A4 or A6 by the first change that offends; A5 where a snapshot is of
-    /// the held mark and has another set; and A9 last. The inventory itself stays.
+    /// What a reply of a node makes of the inventory, and its outcome. A reset and a page change
+    /// nothing. The inventory itself stays.
+    ///
+    /// # Errors
+    ///
+    /// A1; then of a delta A3, A2, and A4 or A6 by the first change that offends; of a snapshot A5;
+    /// A9 last.
     pub fn apply(&self, node: NodeNo, reply: &Reply) -> Result<(Inventory, Outcome), ApplyFault>
         ensures ok { IfOk result (λ r. (new : Entry) × StepsAt self.now node reply.now r.1 new
             × (r.0 ≡ slice_set self.now node new)) }
@@ -259,8 +286,12 @@ impl Inventory {
         Ok((inventory, plan.outcome()))
     }
 
-    /// Applies a reply of a node in place. The answers are those of `apply`, and a refusal leaves the inventory as it was.
-    /// What no other inventory shares is edited, and what is shared is copied first.
+    /// Applies a reply of a node in place. What no other inventory shares is edited, and what is
+    /// shared is copied first.
+    ///
+    /// # Errors
+    ///
+    /// Those of `apply`. Leaves the inventory as it was.
     pub fn advance(&mut self, node: NodeNo, reply: &Reply) -> Result<Outcome, ApplyFault>
         ensures ok { IfOk result (λ outcome. (new : Entry) × StepsAt self.old node reply.now outcome new
             × (self.new ≡ slice_set self.old node new)) }
@@ -368,8 +399,12 @@ impl Inventory {
         Inventory::changed(self.alloc, entries, timelines)
     }
 
-    /// What to ask a node for: all that it serves where it was never synced, and else the changes after its mark; None
-    /// where the list has no such node. Does not allocate.
+    /// What to ask a node for: all that it serves where it was never synced, and else the changes
+    /// after its mark. Does not allocate.
+    ///
+    /// # Errors
+    ///
+    /// None where the list has no such node.
     pub fn next_ask(&self, node: NodeNo) -> Option<Ask>
         ensures { result ≡ option_map (λ e. ask_of e.mark) (slice_get self.now node) }
     {
@@ -397,8 +432,12 @@ impl Inventory {
         Ok(known)
     }
 
-    /// What is known of a node, as a reply for a broker that knows less: all that the node serves at its mark. V2 where
-    /// the list has no such node, V3 where the node was never synced, and V9 last.
+    /// What is known of a node, as a reply for a broker that knows less: all that the node serves
+    /// at its mark.
+    ///
+    /// # Errors
+    ///
+    /// V2; then V3; V9 last.
     pub fn entry(&self, node: NodeNo) -> Result<Reply, InventoryFault>
         ensures ok { IfOk result (IsEntryOf self.now node) }
         ensures unknown { IsErrOf result InventoryFault.UnknownNode ↔ (slice_get self.now node ≡ None) }
@@ -412,11 +451,15 @@ impl Inventory {
         }
     }
 
-    /// What is known of a node, as a reply for a broker that asks, and never more than one message carries. To an ask for all
-    /// that the node serves, or for changes, it is all that the node serves at its mark, up to 20,000 segments, and else the
-    /// first page of that. To an ask for a page it is that page, where the mark is the node's and there is such a page; else
-    /// a reset at the node's mark: of another incarnation where the mark is, and too old in all other cases. V2 where the
-    /// list has no such node, V3 where the node was never synced, and V9 last.
+    /// What is known of a node, as a reply for a broker that asks, and never more than one message
+    /// carries. To an ask for all that the node serves, or for changes, it is all that the node
+    /// serves at its mark, up to 20,000 segments, and else the first page of that. To an ask for a
+    /// page it is that page, where the mark is the node's and there is such a page; else a reset at
+    /// the node's mark: of another incarnation where the mark is, and too old in all other cases.
+    ///
+    /// # Errors
+    ///
+    /// V2; then V3; V9 last.
     pub fn entry_page(&self, node: NodeNo, ask: &Ask) -> Result<Reply, InventoryFault>
         ensures ok { IfOk result (IsAnswerOf self.now node ask.now) }
         ensures unknown { IsErrOf result InventoryFault.UnknownNode ↔ (slice_get self.now node ≡ None) }
@@ -430,9 +473,12 @@ impl Inventory {
         }
     }
 
-    /// What this inventory and another of the same nodes are together: of each node the entry of later mark. J1 where
-    /// they are of other nodes, then J2 where they have other sets at one mark, with the least such node, and J9 last.
-    /// It shares with both what it takes of them; both stay.
+    /// What this inventory and another of the same nodes are together: of each node the entry of
+    /// later mark. It shares with both what it takes of them; both stay.
+    ///
+    /// # Errors
+    ///
+    /// J1; then J2, with the least such node; J9 last.
     pub fn join(&self, other: &Inventory) -> Result<Inventory, JoinFault>
         ensures ok { IfOk result (IsJoin self.now other.now) }
         ensures other_nodes { IsErrOf result JoinFault.OtherNodes

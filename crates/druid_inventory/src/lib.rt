@@ -1,4 +1,5 @@
-//! What a broker knows of the data nodes: a mark and a set of segments for each, and the timelines over them.
+//! What a broker knows of the data nodes: a mark and a set of segments for each, and the timelines
+//! over them.
 #![tactic(auto)]
 
 mod advance;

@@ -1,5 +1,5 @@
-//! A set with what goes out of it and what comes into it: each part of it moves once for those that go, and once for those
-//! that come. Nothing fails here.
+//! A set with what goes out of it and what comes into it: each part of it moves once for those that
+//! go, and once for those that come. Nothing fails here.
 ghost use Rattle.std.specs.Prelude.{◌≡◌, ◌↔◌, ◌⊎◌, ◌+◌, ◌≤◌, List, Contains, IfOk, length, vec_len, vec_capacity};
 ghost use Rattle.druid_segid.specs.Identifier.{identifier_text};
 ghost use Rattle.druid_shard.specs.Described.{Described};

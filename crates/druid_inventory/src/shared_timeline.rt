@@ -1,4 +1,6 @@
-//! Timelines, which inventories share.
+//! Timelines, which inventories share. `Arc::new` may be refused memory, so a roll back cannot
+//! promise a pointer: where it is refused the timeline is kept without one, and copies of the
+//! inventory copy it whole until its next edit in place.
 ghost use Rattle.std.specs.Prelude.{◌≡◌, IfOk, OnOk, OnErr};
 ghost use Rattle.druid_timeline.specs.Holding.{held_of, IsHeld, IsServed, AddsHeld, RemovesHeld};
 ghost use Rattle.druid_inventory.specs.Kept.{timeline_in};

@@ -1,4 +1,5 @@
-//! Links to nodes and to other brokers.
+//! Links to nodes and to other brokers. Which exchanges a link may make each kind of link defines
+//! for itself: those of a test may be any.
 ghost use Rattle.std.specs.Prelude.{◌≡◌, ◌≤◌, ℕ, List, length, IfOk, IfErr};
 ghost use Rattle.druid_link.specs.Limits.{max_exchange};
 ghost use Rattle.druid_link.specs.Links.{Came, came_of, IsLinkFault, faults_after};
@@ -17,9 +18,13 @@ pub trait Link {
     /// How often the device has failed; at 2^64 - 1 it stays.
     ghost faults: { Self → ℕ };
 
-    /// Sends a request, and gives all bytes that come back until the other side closes. `Read`, `Write` and `Connect` where the
-    /// device fails, which `faults` counts; `BodyTooLong` where more than `MAX_EXCHANGE` bytes come; `Memory` where memory was
-    /// refused.
+    /// Sends a request, and gives all bytes that come back until the other side closes.
+    ///
+    /// # Errors
+    ///
+    /// X8, X3 or X2 where the device fails, which `faults` counts; X7 of more than `MAX_EXCHANGE`
+    /// bytes; X9. Leaves what a step of `exchanges` does, by which a kind of link says when which
+    /// comes.
     fn exchange(&mut self, alloc: Global, request: &[u8]) -> Result<Vec<u8>, WireFault>
         ensures step { exchanges self.old request.now (came_of result) self.new }
         ensures bound { IfOk result (λ bytes. length bytes.items ≤ max_exchange) }

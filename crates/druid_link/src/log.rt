@@ -1,3 +1,6 @@
+//! The exchanges of a link over a socket, for proofs. Without them each end of a link could follow
+//! each start, so that a call could report exchanges that it never made. Of a server no more is
+//! known than what came.
 ghost use Rattle.std.specs.Prelude.{◌≡◌, List, [], ◌∷◌};
 ghost use Rattle.std.specs.Borrow.{ftrue};
 ghost use Rattle.druid_link.specs.Exchanged.{Exchanged};

@@ -1,4 +1,6 @@
-//! What is sent and received over a stream within a time.
+//! What is sent and received over a stream within a time. Before each call the stream's timeout is
+//! set to what is left: a timeout alone would begin anew with each byte, and a server that sends
+//! one a second could hold a caller for as long as it likes.
 ghost use Rattle.std.specs.Prelude.{◌≡◌, ◌↔◌, ◌≤◌, ◌<◌, ◌⊎◌, length, take, IfOk, IfErr, OnOk, OnErr};
 ghost use Rattle.std.specs.Io.KnownBytes.{Appends, Consumes, IsAtEnd, Keeps};
 ghost use Rattle.std.specs.IoError.{error_kind};
@@ -84,8 +86,12 @@ fn send_some<C: Clock, S: Write + OpenStream>(
     Err(WireFault::Write)
 }
 
-/// Writes a text within the time. `Read` where the time is over before it is written whole, or the clock cannot be read, and `Write`
-/// where the stream fails; it has got some front of the text then.
+/// Writes a text within the time.
+///
+/// # Errors
+///
+/// X2 where the time is over before it is written whole, or the clock cannot be read; X3 where the
+/// stream fails. It has some front of the text, and not the whole.
 pub fn send_all<C: Clock, S: Write + OpenStream>(
     clock: &C,
     timer: &Timer,
@@ -108,8 +114,11 @@ pub fn send_all<C: Clock, S: Write + OpenStream>(
     Ok(())
 }
 
-/// Reads what comes next, within the time: no bytes where the other side closed. `Read` where the time is over, the clock cannot be
-/// read, or the stream fails.
+/// Reads what comes next, within the time: no bytes where the other side closed.
+///
+/// # Errors
+///
+/// X2 where the time is over, the clock cannot be read, or the stream fails. Nothing was taken.
 pub fn receive_some<C: Clock, S: Read + OpenStream>(
     clock: &C,
     timer: &Timer,

@@ -1,4 +1,5 @@
-//! What a cluster tells of itself, event by event: lines of JSON, and a queue that no one waits for.
+//! What a cluster tells of itself, event by event: lines of JSON, and a queue that no one waits
+//! for.
 #![tactic(auto)]
 
 mod code;

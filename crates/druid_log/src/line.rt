@@ -172,6 +172,10 @@ fn instant_text(alloc: Global, at: Instant) -> Result<String, AllocError>
 
 /// The line of an event of a server at an instant: compact JSON, its keys in the order of their bytes, and a line feed; None where
 /// the level does not let it through.
+///
+/// # Errors
+///
+/// Out of memory.
 #[tactic(auto, using(crate::proofs::PlainLemmas::event_plain))]
 pub fn line_of(
     alloc: Global,

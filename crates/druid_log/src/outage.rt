@@ -1,4 +1,5 @@
-//! What is logged once, and not at each turn.
+//! What is logged once, and not at each turn: a state of a few bytes, whose contract says what is
+//! logged of one turn more, and no thread.
 ghost use Rattle.std.specs.Prelude.{◌≡◌, option_map};
 ghost use Rattle.druid_log.specs.Outages.{failures_after, report_of, incarnation_of, is_news};
 

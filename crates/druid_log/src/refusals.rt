@@ -56,8 +56,12 @@ impl Refusals {
         Ok(())
     }
 
-    /// Notes that the file of that name was refused with a code, and gives whether that is logged: where it was not noted with that
-    /// code before. An error where memory runs out, and then nothing is noted.
+    /// Notes that the file of that name was refused with a code, and gives whether that is logged:
+    /// where it was not noted with that code before.
+    ///
+    /// # Errors
+    ///
+    /// Out of memory. Leaves all as it was.
     pub fn refuse(&mut self, name: &str, code: &str) -> Result<bool, AllocError>
         ensures logged { IfOk result (λ logged. IsTrue logged ↔ (code_of self.old name.now ≢ Some code.now)) }
         ensures noted { OnOk result (Notes name.now (Some code.now) self.old self.new) }

@@ -1,4 +1,6 @@
-//! Lines on their way to a writer: a queue that no one waits for, and the thread that writes what stands in it.
+//! Lines on their way to a writer: a queue that is full before anybody waits, and the thread that
+//! writes what stands in it. The kit's `log` is not used: here an event is a value, whose line is
+//! exact.
 ghost use Rattle.std.specs.Prelude.{◌≡◌, ◌⊎◌, ◌++◌, List, ℕ};
 ghost use Rattle.std.specs.Io.KnownBytes.{Appends};
 ghost use Rattle.druid_stream.specs.Fronts.{AppendsFront};
@@ -35,6 +37,10 @@ pub struct Lines {
 }
 
 /// A log of that level, and its other end: of `Off` none, since nothing is logged.
+///
+/// # Errors
+///
+/// Out of memory.
 pub fn open(alloc: Global, level: Level) -> Result<(Log, Option<Lines>), AllocError> {
     let missed = Arc::new(alloc, AtomicU64::new(0))?;
     if level == Level::Off {

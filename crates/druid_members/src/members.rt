@@ -1,3 +1,5 @@
+//! The members of one chunk, a set of nodes and partitions. A removal may not fail, so the map of
+//! partitions is not cut into shared parts: it would have to copy one.
 ghost use Rattle.std.specs.Prelude.{◌≡◌, ℕ, ◌↔◌, ◌≤◌, ◌<◌, ◌⊎◌, [], List, IsTrue, IsSome, is_some, IfOk, IsOkAnd, OnErr, Contains, unwrap_or, map, Some};
 ghost use Rattle.std.specs.Ordering.{nat_cmp};
 ghost use Rattle.std.specs.BTreeMap as tree;
@@ -57,6 +59,8 @@ fn add_member(
         ⊎ (unwrap_or (tree.get nat_cmp slots.new partition) [] ≡ unwrap_or (tree.get nat_cmp slots.old partition) [])) }
     ensures err { OnErr result
         (unwrap_or (tree.get nat_cmp slots.new partition) [] ≡ unwrap_or (tree.get nat_cmp slots.old partition) []) }
+    ensures absent { OnErr result
+        (Contains (map (λ r. r.0) (unwrap_or (tree.get nat_cmp slots.old partition) [])) node → ⊥) }
     ensures others { (q : ℕ) → (q ≡ partition → ⊥) → tree.get nat_cmp slots.new q ≡ tree.get nat_cmp slots.old q }
     ensures ordered { tree.IsOrdered nat_cmp slots.new }
     ensures was_ordered { tree.IsOrdered nat_cmp slots.old }
@@ -238,14 +242,19 @@ impl Members {
         }
     }
 
-    /// Adds the partition of a descriptor, held by a node. False where the node holds that partition already, and
-    /// then nothing changes.
+    /// Adds the partition of a descriptor, held by a node.
+    ///
+    /// # Errors
+    ///
+    /// False where the node holds that partition already; then out of memory. Leaves the same set of
+    /// members.
     pub fn add(&mut self, descriptor: &Descriptor, node: NodeNo) -> Result<bool, AllocError>
         ensures held { IfOk result (λ added. IsTrue added
             ↔ (HoldsPlace self.old descriptor.now.id.partition node → ⊥)) }
         ensures added { IsOkAnd result IsTrue → Adds self.old self.new (member_of node descriptor.now) }
         ensures same { IfOk result (λ added. IsTrue added ⊎ SameMembers self.old self.new) }
         ensures err { OnErr result (SameMembers self.old self.new) }
+        ensures absent { OnErr result (HoldsPlace self.old descriptor.now.id.partition node → ⊥) }
     {
         let partition = descriptor.id().partition();
         let core = descriptor.core();
@@ -261,8 +270,11 @@ impl Members {
         Ok(added)
     }
 
-    /// Takes a partition from what a node holds. False where the node does not hold it, and then nothing changes. It
-    /// does not allocate.
+    /// Takes a partition from what a node holds. Does not allocate.
+    ///
+    /// # Errors
+    ///
+    /// False where the node does not hold it. Leaves the same set of members.
     pub fn remove(&mut self, partition: u16, node: NodeNo) -> bool
         ensures held { IsTrue result ↔ HoldsPlace self.old partition node }
         ensures removed { RemovesPlace self.old self.new partition node }
@@ -334,6 +346,10 @@ impl Members {
     }
 
     /// The partitions that a node holds, rising.
+    ///
+    /// # Errors
+    ///
+    /// Out of memory.
     pub fn partitions(&self) -> Result<Vec<u16>, AllocError>
         ensures rising { IfOk result (λ v. IsStrictlyIncreasing v.items) }
         ensures all { IfOk result (λ v. (p : ℕ) → Contains v.items p ↔ HasPartition self.now p) }

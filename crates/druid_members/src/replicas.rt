@@ -1,3 +1,4 @@
+//! What each of several nodes states of one partition.
 ghost use Rattle.std.specs.Prelude.{◌≡◌, ℕ, ◌≤◌, ◌↔◌, ◌⊎◌, ◌<◌, [], IsTrue, IfOk, IfErr, IsOkAnd, OnOk, OnErr, insert, get_or, Contains, map, length};
 ghost use Rattle.std.specs.List.{zip};
 ghost use Rattle.std.specs.List.Sorted.{IsStrictlyIncreasing};

@@ -1,3 +1,5 @@
+//! The nodes that hold one partition, where there are several. Those that serve rows stand in a
+//! second list, so that both are lent without memory.
 ghost use Rattle.std.specs.Prelude.{◌≡◌, ◌≤◌, ℕ, ◌↔◌, ◌⊎◌, [], IsTrue, IfOk, IsOkAnd, OnOk, OnErr, Contains, map};
 ghost use Rattle.std.specs.List.Sorted.{IsStrictlyIncreasing};
 ghost use Rattle.druid_members.specs.Members.{core_count};
@@ -98,6 +100,7 @@ impl Roster {
         ensures added { IsOkAnd result IsTrue → (x : Replica) → Contains self.new x ↔ ((x ≡ (node, stated)) ⊎ Contains self.old x) }
         ensures same { IfOk result (λ added. IsTrue added ⊎ (self.new ≡ self.old)) }
         ensures err { OnErr result (self.new ≡ self.old) }
+        ensures absent { OnErr result (Contains (map (λ r. r.0) self.old) node → ⊥) }
     {
         if self.replicas.holds(node) {
             return Ok(false);

@@ -1,3 +1,5 @@
+//! The nodes that hold one partition. A delta copies the map of a chunk that others share, so a
+//! partition of one node is that node and what it states, in the map itself.
 ghost use Rattle.std.specs.Prelude.{◌≡◌, ◌≤◌, ℕ, ◌↔◌, ◌⊎◌, [], ◌∷◌, IsTrue, IfOk, IsOkAnd, OnErr, Contains, map};
 ghost use Rattle.std.specs.List.Sorted.{IsStrictlyIncreasing};
 ghost use Rattle.druid_members.specs.Members.{core_count};
@@ -99,6 +101,7 @@ impl Slot {
         ensures added { IsOkAnd result IsTrue → (x : Replica) → Contains self.new x ↔ ((x ≡ (node, stated)) ⊎ Contains self.old x) }
         ensures same { IfOk result (λ added. IsTrue added ⊎ (self.new ≡ self.old)) }
         ensures err { OnErr result (self.new ≡ self.old) }
+        ensures absent { OnErr result (Contains (map (λ r. r.0) self.old) node → ⊥) }
     {
         match &mut self.holders {
             Holders::One(other, theirs) => {

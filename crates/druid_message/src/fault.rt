@@ -1,3 +1,4 @@
+//! Why a message was not read or not written.
 ghost use Rattle.std.specs.Prelude.{◌≡◌};
 ghost use Rattle.druid_message.specs.declared.fault.WireFault.TheVariants.{Memory};
 

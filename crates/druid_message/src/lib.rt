@@ -1,4 +1,5 @@
-//! Requests of HTTP, and why a message is not read or not written: what servers, links and readers share.
+//! Requests of HTTP, and why a message is not read or not written: what servers, links and readers
+//! share.
 #![tactic(auto)]
 
 mod fault;

@@ -1,4 +1,6 @@
-//! The families of a cluster's servers, out of what they counted.
+//! The families of a cluster's servers, out of what they counted. Which number stands in which
+//! family no contract could say of a cell: worked pages test it. Of 56 pairs of route and status a
+//! server uses a dozen, so those that are 0 are left out.
 use crate::family::{Bucket, Family, Histogram, Kind, Label, Number, Sample, Spread};
 use crate::meter::{BOUNDS, Readings};
 use crate::route::{ROUTES, Route, STATUSES, status_at};
@@ -145,6 +147,10 @@ fn answers_family<'a>(
 
 /// What a server tells of its connections: `druid_cluster_connections_total`, `druid_cluster_answers_total` by route and status (of
 /// those that were not 0), and `druid_cluster_written_bytes_total`.
+///
+/// # Errors
+///
+/// Out of memory.
 pub fn server_families<'a>(
     alloc: Global,
     server: &'a str,
@@ -181,6 +187,10 @@ fn buckets_of(alloc: Global, readings: &Readings) -> Result<Vec<Bucket>, AllocEr
 }
 
 /// How long the answers of a server took: `druid_cluster_answer_seconds`.
+///
+/// # Errors
+///
+/// Out of memory.
 pub fn server_histogram<'a>(
     alloc: Global,
     server: &'a str,
@@ -201,6 +211,10 @@ pub fn server_histogram<'a>(
 
 /// What a node tells of its state: `druid_cluster_node_incarnation`, `_node_changes`, `_node_segments`, `_node_rows` and
 /// `_node_file_bytes`.
+///
+/// # Errors
+///
+/// Out of memory.
 pub fn node_families<'a>(
     alloc: Global,
     server: &'a str,
@@ -384,6 +398,10 @@ fn heard<'a>(
 
 /// What a broker tells of the nodes that it follows: `druid_cluster_turns_total` and `druid_cluster_exchanges_total` by how they ended
 /// (of those that were not 0), `druid_cluster_followed_incarnation`, `_followed_changes` and `_followed_heard_timestamp_seconds`.
+///
+/// # Errors
+///
+/// Out of memory.
 pub fn broker_families<'a>(
     alloc: Global,
     server: &'a str,

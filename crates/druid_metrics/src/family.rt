@@ -1,4 +1,5 @@
-//! Families of samples, as values, from whatever source.
+//! Families of samples, as values, from whatever source: so their text is defined apart from who
+//! counts. Times are whole microseconds, since a sum of floats would have no exact text.
 ghost use Rattle.std.specs.Prelude.{◌≡◌};
 
 use std::marker::Model;

@@ -1,5 +1,6 @@
 //! What a broker counts of a node that it follows.
-ghost use Rattle.std.specs.Prelude.{◌≡◌, ◌<◌, IfSome, length};
+ghost use Rattle.std.specs.Prelude.{◌≡◌, ◌<◌, IfSome, length, position};
+ghost use Rattle.std.specs.Str.{bytes_eq};
 
 use crate::families::{Followed, TURN_ENDS};
 use crate::meter::Counts;
@@ -14,7 +15,8 @@ const HEARD: usize = 2;
 
 /// The place of an end among those that there are, from 0: None where it is none of them.
 pub fn end_place(ends: &[&str], end: &str) -> Option<usize>
-    ensures { IfSome result (λ place. place < length ends.now) }
+    ensures value { result ≡ position (λ one. bytes_eq one.now end.now) ends.now }
+    ensures bound { IfSome result (λ place. place < length ends.now) }
 {
     ends.iter().position(|one| *one == end)
 }
@@ -28,6 +30,10 @@ pub struct FollowMeter {
 
 impl FollowMeter {
     /// One that has counted nothing.
+    ///
+    /// # Errors
+    ///
+    /// Out of memory.
     pub fn new(alloc: Global) -> Result<FollowMeter, AllocError> {
         Ok(FollowMeter {
             turns: Counts::new(alloc, TURN_ENDS.len())?,
@@ -60,6 +66,10 @@ impl FollowMeter {
 
     /// What was counted so far of the node of that name, with how its exchanges ended, in the order of `EXCHANGE_ENDS`: each number
     /// is one that it had while this was called.
+    ///
+    /// # Errors
+    ///
+    /// Out of memory.
     pub fn read<'a>(
         &self,
         alloc: Global,

@@ -20,6 +20,10 @@ pub struct Counts {
 
 impl Counts {
     /// So many numbers, each 0.
+    ///
+    /// # Errors
+    ///
+    /// Out of memory.
     pub fn new(alloc: Global, count: usize) -> Result<Counts, AllocError>
         ensures { IfOk result (λ counts. vec_len counts.cells ≡ count) }
     {
@@ -60,6 +64,10 @@ impl Counts {
     }
 
     /// The numbers, one read after another.
+    ///
+    /// # Errors
+    ///
+    /// Out of memory.
     pub fn read(&self, alloc: Global) -> Result<Vec<u64>, AllocError>
         ensures { IfOk result (λ numbers. vec_len numbers ≡ vec_len self.now.cells) }
     {
@@ -100,6 +108,10 @@ pub struct Meter {
 
 impl Meter {
     /// One that has counted nothing.
+    ///
+    /// # Errors
+    ///
+    /// Out of memory.
     pub fn new(alloc: Global) -> Result<Meter, AllocError> {
         Ok(Meter {
             sums: Counts::new(alloc, 3)?,
@@ -123,6 +135,10 @@ impl Meter {
     }
 
     /// What was counted so far: each number is one that it had while this was called.
+    ///
+    /// # Errors
+    ///
+    /// Out of memory.
     pub fn read(&self, alloc: Global) -> Result<Readings, AllocError> {
         Ok(Readings {
             sums: self.sums.read(alloc)?,

@@ -22,6 +22,10 @@ pub struct NodeMeter {
 
 impl NodeMeter {
     /// One of which nothing was noted.
+    ///
+    /// # Errors
+    ///
+    /// Out of memory.
     pub fn new(alloc: Global) -> Result<NodeMeter, AllocError> {
         Ok(NodeMeter {
             cells: Counts::new(alloc, 5)?,

@@ -1,4 +1,5 @@
-//! The response that carries metrics.
+//! The response that carries metrics. It is written here, since what servers write else is JSON,
+//! and Prometheus goes by the type of content.
 ghost use Rattle.std.specs.Prelude.{◌≡◌, IfOk};
 ghost use Rattle.druid_metrics.specs.Response.{before_length, response_text};
 
@@ -14,6 +15,10 @@ fn before_length(_body: &[u8]) -> &[u8]
 
 /// The whole response with a text of metrics, as it is written to a connection: status 200, with the type of content that Prometheus
 /// asks for.
+///
+/// # Errors
+///
+/// Out of memory.
 pub fn metrics_response(alloc: Global, body: &[u8]) -> Result<Vec<u8>, AllocError>
     ensures { IfOk result (λ text. text.items ≡ response_text body.now) }
 {

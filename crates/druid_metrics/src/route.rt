@@ -1,5 +1,5 @@
 //! What the servers of a cluster are asked for, and with which status they answer.
-ghost use Rattle.std.specs.Prelude.{◌≡◌, ◌<◌, IfSome, length, position};
+ghost use Rattle.std.specs.Prelude.{◌≡◌, ◌<◌, IfSome, None, length, position};
 ghost use Rattle.druid_metrics.specs.Routes.{is_space, ends_path, front_to, after, path_in, route_at, route_text, route_place, status_place};
 
 /// What a request asks for, by its path.
@@ -169,7 +169,8 @@ pub fn status_place(status: Option<u16>) -> usize
 
 /// The status of a place, from 0; None at that of `none`, and past it.
 pub fn status_at(place: usize) -> Option<u16>
-    ensures { place < 7 → status_place result ≡ place }
+    ensures place { place < 7 → status_place result ≡ place }
+    ensures past { 5 < place → result ≡ None }
 {
     match place {
         0 => Some(200),

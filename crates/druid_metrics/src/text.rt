@@ -329,9 +329,14 @@ fn histogram_texts(alloc: Global, histograms: &[Histogram<'_>]) -> Result<Vec<u8
     Ok(text)
 }
 
-/// The text of families, and after them of histograms, as Prometheus reads it (version 0.0.4): each with its head, and then a line
-/// for each sample. Values of labels and sentences are escaped; microseconds stand as seconds; each bucket counts those of the
-/// buckets before it too, the last all. An error where memory runs out.
+/// The text of families, and after them of histograms, as Prometheus reads it (version 0.0.4): each
+/// with its head, and then a line for each sample. Values of labels and sentences are escaped;
+/// microseconds stand as seconds; each bucket counts those of the buckets before it too, the last
+/// all.
+///
+/// # Errors
+///
+/// Out of memory.
 pub fn render(
     alloc: Global,
     families: &[Family<'_>],

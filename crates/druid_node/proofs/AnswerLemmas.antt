@@ -1,13 +1,17 @@
 -- What pieces tell, halved and one by one, and which of them are missing.
-use Rattle.std.proofs.Common.{◌≡◌, ◌<◌, ◌≤◌, ℕ, zero, suc, List, [], ◌∷◌, ◌++◌, All, map, slice_get, Some, None, length, get_or, drop, refl, sym, ap, ◌∙◌, arith, append-nil, append_assoc}
+use Rattle.std.proofs.Common.{◌≡◌, ◌<◌, ◌≤◌, ℕ, zero, suc, List, [], ◌∷◌, ◌++◌, All, map, slice_get, Some, None, length, get_or, take, drop, refl, sym, ap, ◌∙◌, subst, arith, append-nil, append_assoc}
 use Rattle.std.proofs.lemmas.List.Elements.{All-head, All-tail}
+use Rattle.std.proofs.lemmas.List.{take-append-drop}
 use Rattle.std.proofs.lemmas.List.Concat.{flat_map-append}
 use Rattle.druid_rows.specs.Segment.{Segment}
 use Rattle.druid_query.specs.Query.{Query}
 use Rattle.druid_query.specs.Asked.{Asked}
+use Rattle.druid_partial.specs.Groups.{Group, IsResult}
+use Rattle.druid_partial.specs.Partials.{kinds_of}
 use Rattle.druid_node.specs.Answers.{missing}
 use Rattle.druid_scan.specs.Once.{segment_named, counted_in, counted_of, counted_groups}
 use Rattle.druid_scan.specs.Rows.{counted_by}
+use Rattle.druid_scan.specs.Told.{Slice, told_by}
 use Rattle.druid_node.specs.Placed.{Placed, counted_at}
 use Rattle.std.specs.List.{flat_map}
 
@@ -60,6 +64,26 @@ one_place query held place s [] here one = refl
 one_place query held place s (p ∷ pieces) here one =
     let first : counted_by query s p.1 ≡ counted_at query held p = ap (counted_in query p.1) (sym here ∙ ap (slice_get held) (sym (All-head (λ (q : Placed). q.0 ≡ place) p pieces one))) in
     (λ i. first i ++ one_place query held place s pieces here (All-tail (λ (q : Placed). q.0 ≡ place) p pieces one) i)
+
+-- one slice more
+pub slices_next : (held : List Segment) (slices more : List Slice) (s : Slice) (front back rest pieces : List Placed) (n : ℕ) → front ≡ take n rest → back ≡ drop n rest
+    → ((query : Query) → told_by query s ≡ flat_map (counted_at query held) front) → more ≡ slices ++ s ∷ []
+    → ((query : Query) → flat_map (told_by query) slices ++ flat_map (counted_at query held) rest ≡ flat_map (counted_at query held) pieces)
+    → (query : Query) → flat_map (told_by query) more ++ flat_map (counted_at query held) back ≡ flat_map (counted_at query held) pieces
+slices_next held slices more s front back rest pieces n f b tells m before query =
+    let told = flat_map (told_by query) slices in
+    let tail = flat_map (counted_at query held) back in
+    ap (λ l. l ++ tail) (ap (flat_map (told_by query)) m ∙ flat_map-append (told_by query) slices (s ∷ []) ∙ ap (λ l. told ++ l) (append-nil (told_by query s) ∙ tells query))
+    ∙ append_assoc told (flat_map (counted_at query held) front) tail
+    ∙ ap (λ l. told ++ l) (sym (flat_map-append (counted_at query held) front back) ∙ ap (flat_map (counted_at query held)) ((λ i. f i ++ b i) ∙ take-append-drop n rest))
+    ∙ before query
+
+-- the result of pieces that a counted list is read as, where a result of the list is one of what was asked for
+pub read_result : (held : List Segment) (query : Query) (asked : List Asked) (placed read : List Placed) (groups : List Group)
+    → ((query : Query) (groups : List Group) → IsResult (kinds_of query) (flat_map (counted_at query held) placed) groups → IsResult (kinds_of query) (counted_groups query held asked) groups)
+    → read ≡ placed → IsResult (kinds_of query) (flat_map (counted_at query held) read) groups → IsResult (kinds_of query) (counted_groups query held asked) groups
+read_result held query asked placed read groups counted is result =
+    counted query groups (subst (λ (pieces : List Placed). IsResult (kinds_of query) (flat_map (counted_at query held) pieces) groups) is result)
 
 -- ---- missing pieces
 

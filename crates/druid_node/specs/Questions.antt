@@ -1,5 +1,5 @@
 -- What a request asks of a node's state, and what an answer is made of. Only proofs and private functions use this.
-use Rattle.std.specs.Prelude.{◌≡◌, ◌⊎◌, ℕ, List, Some}
+use Rattle.std.specs.Prelude.{◌≡◌, ◌⊎◌, ⊤, ℕ, List, Some}
 use Rattle.std.specs.Arc.{arc_value}
 use Rattle.druid_shard.specs.Mark.{Point}
 use Rattle.druid_sync.specs.Back.{IsReadBack}
@@ -33,10 +33,24 @@ IsMadeOf (rests.Held held sub) status body = AnswersSub (arc_value held) sub sta
 abbrev pub IsBasisOf : State → State → Question → Basis → Type 0
 IsBasisOf old new question basis = (status : ℕ) (body : List ℕ) → IsMadeOf basis status body → Gives old new question status body
 
--- the same, where out of memory may stand in the place of the answer
+-- the answer to a question takes memory, unless it is settled
+abbrev pub IsOpen : Question → Type 0
+IsOpen (asks.Settled response) = ⊥
+IsOpen (asks.Reply ask) = ⊤
+IsOpen (asks.Answer sub) = ⊤
+
+-- what is made of this takes memory
+abbrev pub IsUnmade : Basis → Type 0
+IsUnmade (rests.Settled response) = ⊥
+IsUnmade (rests.Reply reply) = ⊤
+IsUnmade (rests.Held held sub) = ⊤
+
+-- the same, where out of memory may stand in the place of an answer that takes some
 abbrev pub IsBasisInTurn : State → State → Question → Basis → Type 0
 IsBasisInTurn old new question basis =
-    (status : ℕ) (body : List ℕ) → IsMadeOf basis status body → Gives old new question status body ⊎ IsOutOfMemory status body
+    ((status : ℕ) (body : List ℕ) → IsMadeOf basis status body
+    → Gives old new question status body ⊎ (IsOpen question × IsOutOfMemory status body))
+    × (IsUnmade basis → IsOpen question)
 
 -- a state of that incarnation gave this, whose mark is the second and not below the first
 abbrev pub IsBasisFrom : ℕ → Point → Point → Question → Basis → Type 0
@@ -45,4 +59,4 @@ IsBasisFrom incarnation before after question basis =
 
 -- the answer that is made of this, where out of memory may stand in its place
 abbrev pub IsMadeInTurn : Basis → ℕ → List ℕ → Type 0
-IsMadeInTurn basis status body = IsMadeOf basis status body ⊎ IsOutOfMemory status body
+IsMadeInTurn basis status body = IsMadeOf basis status body ⊎ (IsUnmade basis × IsOutOfMemory status body)

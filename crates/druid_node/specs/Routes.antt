@@ -1,5 +1,5 @@
 -- What a node answers to a request.
-use Rattle.std.specs.Prelude.{◌≡◌, ◌≢◌, ◌⊎◌, ℕ, Bool, true, false, List, codes, bytes_eq, Option, Some, None, Ok, Err, if◌then◌else◌}
+use Rattle.std.specs.Prelude.{◌≡◌, ◌≢◌, ◌⊎◌, IsSome, ℕ, Bool, true, false, List, codes, bytes_eq, Option, Some, None, Ok, Err, if◌then◌else◌}
 use Rattle.druid_shard.specs.declared.change.Ask.{Ask}
 use Rattle.druid_shard.specs.declared.change.Change.{Change}
 use Rattle.druid_shard.specs.declared.reply.Body.{Body}
@@ -80,7 +80,16 @@ AnswersAt Nowhere old new request status body = (new ≡ old) × Tells 404 (code
 abbrev pub Responds : State → State → RequestValue → ℕ → List ℕ → Type 0
 Responds old new request status body = AnswersAt (route_of (path_of request.target)) old new request status body
 
--- out of memory in the place of the answer
+-- the answer takes memory: to an ask that reads, or to what is posted as a query
+abbrev pub TakesMemory : Route → RequestValue → Type 0
+TakesMemory Health request = ⊥
+TakesMemory Segments request =
+    (bytes_eq request.method (codes "GET") ≡ true) × IsSome (ask_at (parameters_of request.target))
+TakesMemory Query request = bytes_eq request.method (codes "POST") ≡ true
+TakesMemory Nowhere request = ⊥
+
+-- out of memory in the place of an answer that takes some
 abbrev pub RespondsInTurn : State → State → RequestValue → ℕ → List ℕ → Type 0
 RespondsInTurn old new request status body =
-    Responds old new request status body ⊎ IsOutOfMemory status body
+    Responds old new request status body
+    ⊎ (TakesMemory (route_of (path_of request.target)) request × IsOutOfMemory status body)

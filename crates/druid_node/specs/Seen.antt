@@ -2,8 +2,9 @@
 use Rattle.std.specs.Prelude.{◌≡◌, ◌≢◌, ◌⊎◌, ⊤, ℕ, List, Option, Some, IfSome}
 use Rattle.std.specs.declared.cmp.Ordering.TheVariants.{Less, Greater}
 use Rattle.druid_segid.specs.Identifier.{Identifier}
+use Rattle.druid_shard.specs.Described.{Described}
 use Rattle.druid_shard.specs.Mark.{Point, mark_cmp}
-use Rattle.druid_changes.specs.Kept.{IsKept}
+use Rattle.druid_changes.specs.Kept.{IsKept, described_named}
 use Rattle.druid_changes.specs.declared.fault.HistoryFault.{HistoryFault}
 use Rattle.druid_changes.specs.declared.fault.HistoryFault.TheVariants.{Served, NotServed, Full, CountAtEnd}
 use Rattle.druid_changes.specs.declared.fault.HistoryFault.TheVariants as history
@@ -11,7 +12,7 @@ use Rattle.druid_message.specs.Requests.{RequestValue}
 use Rattle.druid_wire.specs.Messages.{IsRequest}
 use Rattle.druid_wire.specs.Served.{IsServed, FailsToServe}
 use Rattle.druid_message.specs.declared.fault.WireFault.{WireFault}
-use Rattle.druid_node.specs.State.{State, IsState, Freezes}
+use Rattle.druid_node.specs.State.{State, IsState, Leaves, Freezes}
 use Rattle.druid_node.specs.Routes.{RespondsInTurn}
 use Rattle.druid_node.specs.declared.fault.NodeFault.{NodeFault}
 use Rattle.druid_node.specs.declared.fault.NodeFault.TheVariants as faults
@@ -32,6 +33,27 @@ IsAtLeast found seen = mark_cmp found seen ≢ Less
 abbrev pub RefusesAsSeen : ℕ → (NodeFault → Type 0) → Point → Point → NodeFault → Type 0
 RefusesAsSeen incarnation Why found seen fault =
     (IsStale incarnation found seen × (fault ≡ faults.Behind found)) ⊎ (IsAtLeast found seen × Why fault)
+
+-- a node of that incarnation made a change, in a state not older than what was seen before; what is seen after is its mark then
+pub record Changes (incarnation : ℕ) (Made : State → State → Type 0) (before after : Point) : Type 0 where
+  pub old : State
+  pub new : State
+  pub valid : IsState old
+  pub kept : IsKept old.history
+  pub own : old.history.incarnation ≡ incarnation
+  pub as_seen : IsAtLeast (mark_of old) before
+  pub made : Made old new
+  pub marked : after ≡ mark_of new
+
+-- a node of that incarnation did not make a change: its state was older than what was seen, or why it refuses it
+abbrev pub RefusesChange : ℕ → (State → NodeFault → Type 0) → Point → NodeFault → Type 0
+RefusesChange incarnation Why seen fault =
+    (old : State) × IsState old × IsKept old.history × (old.history.incarnation ≡ incarnation)
+    × RefusesAsSeen incarnation (Why old) (mark_of old) seen fault
+
+-- what is served under the identifier was dropped
+abbrev pub Drops : State → State → Identifier → Type 0
+Drops old new id = (d : Described) × (described_named id old.history.set ≡ Some d) × Leaves old new d
 
 -- a load is refused for what is served, or for the count
 abbrev pub IsLoadRefusal : HistoryFault → Type 0

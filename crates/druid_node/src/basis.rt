@@ -1,15 +1,15 @@
 //! What an answer is made of. No state is at hand where it is made.
-ghost use Rattle.std.specs.Prelude.{◌≡◌, IfOk, IfErr};
+ghost use Rattle.std.specs.Prelude.{◌≡◌, IfOk, IfErr, OnErr};
 ghost use Rattle.druid_sync.specs.Back.{IsReadBack};
 ghost use Rattle.druid_sync.specs.Written.{reply_text};
 ghost use Rattle.druid_wire.specs.Served.{Tells};
-ghost use Rattle.druid_node.specs.Routes.{AnswersSub};
-ghost use Rattle.druid_node.specs.Questions.{IsMadeOf};
+ghost use Rattle.druid_partial_text.specs.Answers.{answer_text};
+ghost use Rattle.druid_node.specs.Questions.{IsMadeOf, IsUnmade};
 
 use crate::NodeFault;
-use crate::answering::answer_of;
+use crate::answering::{answer_in_parts, answer_of};
 use crate::held::Held;
-use druid_partial_text::node_answer_text;
+use druid_partial_text::{NodeAnswer, node_answer_text};
 use druid_query::SubQuery;
 use druid_shard::Reply;
 use druid_sync::reply_text;
@@ -17,6 +17,7 @@ use druid_wire::Response;
 use http::StatusCode;
 use std::alloc::Global;
 use std::sync::Arc;
+use std::thread::Threads;
 
 /// What a state gave for an answer.
 #[derive(Drop)]
@@ -39,14 +40,12 @@ fn answer_with(alloc: Global, reply: &Reply) -> Result<Response, NodeFault>
     }
 }
 
-fn answer_sub(alloc: Global, held: &Held, sub: &SubQuery) -> Result<Response, NodeFault>
-    ensures ok { IfOk result (λ r. AnswersSub held.now sub.now r.status r.body) }
+// The response of an answer to a subquery.
+fn answer_sub(alloc: Global, answer: &NodeAnswer) -> Result<Response, NodeFault>
+    ensures ok { IfOk result (λ r. Tells 200 (answer_text answer.now) r.status r.body) }
     ensures err { IfErr result (λ fault. fault ≡ NodeFault.Memory) }
 {
-    let Ok(answer) = answer_of(alloc, held, sub) else {
-        return Err(NodeFault::Memory);
-    };
-    match node_answer_text(alloc, &answer) {
+    match node_answer_text(alloc, answer) {
         Ok(text) => Ok(Response::of_text(StatusCode::OK, text)),
         Err(_) => Err(NodeFault::Memory),
     }
@@ -56,10 +55,30 @@ fn answer_sub(alloc: Global, held: &Held, sub: &SubQuery) -> Result<Response, No
 pub(crate) fn answer_from(alloc: Global, basis: Basis) -> Result<Response, NodeFault>
     ensures ok { IfOk result (λ r. IsMadeOf basis r.status r.body) }
     ensures err { IfErr result (λ fault. fault ≡ NodeFault.Memory) }
+    ensures unmade { OnErr result (IsUnmade basis) }
 {
     match basis {
         Basis::Settled(response) => Ok(response),
         Basis::Reply(reply) => answer_with(alloc, &reply),
-        Basis::Held(held, sub) => answer_sub(alloc, &held, &sub),
+        Basis::Held(held, sub) => answer_sub(alloc, &answer_of(alloc, &held, &sub)?),
+    }
+}
+
+// The same, of which pieces of segments are counted on so many threads at most.
+pub(crate) fn answer_from_parts<R: Threads>(
+    rt: &R,
+    alloc: Global,
+    basis: Basis,
+    threads: usize,
+) -> Result<Response, NodeFault>
+    ensures ok { IfOk result (λ r. IsMadeOf basis r.status r.body) }
+    ensures err { IfErr result (λ fault. fault ≡ NodeFault.Memory) }
+    ensures unmade { OnErr result (IsUnmade basis) }
+{
+    match basis {
+        Basis::Held(held, sub) => {
+            answer_sub(alloc, &answer_in_parts(rt, alloc, &held, &sub, threads)?)
+        }
+        basis => answer_from(alloc, basis),
     }
 }

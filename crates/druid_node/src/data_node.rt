@@ -1,13 +1,17 @@
+//! A data node, whose lock is held to take what an answer is made of, and not while that is made.
 ghost use Rattle.std.specs.Prelude.{◌≡◌, ◌⊎◌, Some, Ok, IfOk, IfErr, OnOk, OnErr, bytes_eq, length};
 ghost use Rattle.std.specs.declared.cmp.Ordering.TheVariants.{Less};
 ghost use Rattle.druid_shard.specs.Mark.{Point, mark_cmp};
+ghost use Rattle.druid_changes.specs.Kept.{described_named};
 ghost use Rattle.druid_rows.specs.Segment.{Segment};
 ghost use Rattle.druid_folder.specs.Folder.{IsOwnFault, read_part, bytes_read};
 ghost use Rattle.druid_segfile.specs.Reading.{segment_at};
 ghost use Rattle.druid_node.specs.Files.{file_name, named, file_at, reported_as, RefusesFile, IsOfFile, size_of, RefusesBytes, RefusesFound, faults_after_load};
-ghost use Rattle.druid_node.specs.Seen.{IsStale, RefusesLoad, RefusesDrop, RefusesTombstone, AnswersFrom};
-ghost use Rattle.druid_node.specs.Routes.{RespondsInTurn};
-ghost use Rattle.druid_node.specs.Questions.{Asks, IsBasisFrom};
+ghost use Rattle.druid_node.specs.State.{Takes, Covers, RefusesToCover, RefusesToDrop};
+ghost use Rattle.druid_node.specs.Seen.{Changes, Drops, RefusesChange, IsStale, RefusesLoad, RefusesDrop, RefusesTombstone, AnswersFrom};
+ghost use Rattle.druid_message.specs.Requests.{path_of};
+ghost use Rattle.druid_node.specs.Routes.{RespondsInTurn, TakesMemory, route_of};
+ghost use Rattle.druid_node.specs.Questions.{Asks, IsOpen, IsBasisFrom};
 
 use crate::question::{Question, question_of};
 use crate::seen::{Answered, Based, StateIn, answer_for};
@@ -21,6 +25,7 @@ use druid_shard::Mark;
 use druid_wire::Response;
 use std::alloc::{AllocError, Global};
 use std::sync::{Mutex, Wait};
+use std::thread::Threads;
 
 /// A data node: it loads segments from files, places tombstones, and answers requests. Its state is under a lock, so threads may
 /// share it.
@@ -32,6 +37,7 @@ use std::sync::{Mutex, Wait};
 pub struct DataNode<I: Incarnation> {
     alloc: Global,
     state: Mutex<StateIn<I>>,
+    threads: usize,
 }
 
 // What a failed read of a folder tells.
@@ -67,7 +73,8 @@ fn file_fault(fault: FileFault) -> NodeFault
 
 // What the request asks of a state. Where memory runs out for that, each state answers out of memory.
 fn question_in_turn(alloc: Global, request: &Request) -> Question
-    ensures { Asks result (λ old new. RespondsInTurn old new request.now) }
+    ensures asks { Asks result (λ old new. RespondsInTurn old new request.now) }
+    ensures takes { IsOpen result → TakesMemory (route_of (path_of request.now.target)) request.now }
 {
     match question_of(alloc, request) {
         Ok(question) => question,
@@ -122,13 +129,15 @@ fn found_segment(alloc: Global, name: &str, found: Option<Vec<u8>>) -> Result<Se
 }
 
 impl<I: Incarnation> DataNode<I> {
-    /// The data node of that state.
-    pub fn new(state: NodeState) -> DataNode<I>
+    /// The data node of that state, which counts the segments of one query on so many threads at most, that of the caller among
+    /// them. What it answers is the same whatever the number, and 0 is as 1.
+    pub fn new(state: NodeState, threads: usize) -> DataNode<I>
         requires { state.history.incarnation ≡ I.number }
     {
         DataNode {
             alloc: state.alloc(),
             state: Mutex::new(StateIn::new(state)),
+            threads,
         }
     }
 
@@ -148,9 +157,9 @@ impl<I: Incarnation> DataNode<I> {
 
     // What its state answers to a request, and the state's mark. The request is read before the lock is taken, and the answer
     // made after it was given back, of the state as it was then.
-    pub(crate) fn respond(
+    pub(crate) fn respond<R: Wait + Threads>(
         &self,
-        rt: &impl Wait,
+        rt: &R,
         request: &Request,
         seen: Mark,
     ) -> Result<Answered, NodeFault>
@@ -159,7 +168,7 @@ impl<I: Incarnation> DataNode<I> {
     {
         let question = question_in_turn(self.alloc, request);
         let based = self.basis_of(rt, question, seen)?;
-        Ok(answer_for(self.alloc, based))
+        Ok(answer_for(rt, self.alloc, based, self.threads))
     }
 
     // Loads the segment of a file of so many bytes. Its identifier is copied before, so that nothing fails after the load.
@@ -170,7 +179,8 @@ impl<I: Incarnation> DataNode<I> {
         bytes: usize,
         seen: &mut Mark,
     ) -> Result<LoadedFile, NodeFault>
-        ensures loaded { IfOk result (λ loaded. (loaded.id ≡ segment.descriptor.id) × (loaded.rows ≡ length segment.rows)) }
+        ensures loaded { IfOk result (λ loaded. (loaded.id ≡ segment.descriptor.id) × (loaded.rows ≡ length segment.rows)
+            × Changes I.number (λ old new. Takes old new segment) seen.old seen.new) }
         ensures bytes { IfOk result (λ loaded. loaded.bytes ≡ bytes) }
         ensures raised { OnOk result (mark_cmp seen.old seen.new ≡ Less) }
         ensures own { OnOk result (seen.new.incarnation ≡ I.number) }
@@ -187,11 +197,15 @@ impl<I: Incarnation> DataNode<I> {
         Ok(LoadedFile::new(id, rows, bytes))
     }
 
-    /// Loads the segment of the file of that name, of which a folder gives no more than 16 MiB and a byte, and sees the mark
-    /// after that. N1 where the device fails, N6 where there is no such file, N2 where its bytes are no segment, N3 where the
-    /// file is not called by the text of the segment's identifier and `.seg`. Then N8 where the node's state is older than what was
-    /// seen, and then the refusals of `NodeState::load`. N9 where memory runs out, which the read of the folder may tell in
-    /// place of all of these, and what comes after it only where the bytes are a segment. Where it fails all is as it was.
+    /// Loads the segment of the file of that name, of which a folder gives no more than 16 MiB and
+    /// a byte, and sees the mark after that.
+    ///
+    /// # Errors
+    ///
+    /// N1, or N9 of the read; then N6; N2 with F1 to F6; N3; then N8; then those of
+    /// `NodeState::load`. N9 may come in place of N3 and what follows it (that it comes of no bytes
+    /// which N2 refuses, and N8 before N4, are clauses of private calls). Leaves `seen`, the files
+    /// of the folder, and the node's state (a clause of a private call).
     pub fn load_file<F: Folder>(
         &self,
         rt: &impl Wait,
@@ -200,7 +214,8 @@ impl<I: Incarnation> DataNode<I> {
         seen: &mut Mark,
     ) -> Result<(), NodeFault>
         ensures ok { F.is_honest folder.new
-            → OnOk result ((s : Segment) × (file_at name.now (read_part (F.content folder.old name.now)) ≡ Ok s)) }
+            → OnOk result ((s : Segment) × (file_at name.now (read_part (F.content folder.old name.now)) ≡ Ok s)
+            × Changes I.number (λ old new. Takes old new s) seen.old seen.new) }
         ensures raised { OnOk result (mark_cmp seen.old seen.new ≡ Less) }
         ensures own { OnOk result (seen.new.incarnation ≡ I.number) }
         ensures err { F.is_honest folder.new
@@ -218,6 +233,10 @@ impl<I: Incarnation> DataNode<I> {
 
     /// Loads the segment of the file of that name as `load_file` does, and gives its identifier, by which it is dropped, that
     /// whose text and `.seg` the name is, and how large it is.
+    ///
+    /// # Errors
+    ///
+    /// Those of `load_file`.
     pub fn load_identified<F: Folder>(
         &self,
         rt: &impl Wait,
@@ -227,7 +246,8 @@ impl<I: Incarnation> DataNode<I> {
     ) -> Result<LoadedFile, NodeFault>
         ensures ok { F.is_honest folder.new
             → IfOk result (λ loaded. (s : Segment) × (file_at name.now (read_part (F.content folder.old name.now)) ≡ Ok s)
-            × (loaded.id ≡ s.descriptor.id) × (loaded.rows ≡ length s.rows)) }
+            × (loaded.id ≡ s.descriptor.id) × (loaded.rows ≡ length s.rows)
+            × Changes I.number (λ old new. Takes old new s) seen.old seen.new) }
         ensures bytes { F.is_honest folder.new
             → IfOk result (λ loaded. loaded.bytes ≡ size_of (read_part (F.content folder.old name.now))) }
         ensures id { IfOk result (λ loaded. name.now ≡ file_name loaded.id) }
@@ -253,18 +273,25 @@ impl<I: Incarnation> DataNode<I> {
         }
     }
 
-    /// Places the tombstone of that identifier among what the node serves, and sees the mark after that. N7 where the identifier
-    /// is not of partition 0. Then N8 where the node's state is older than what was seen, and then the other refusals of
-    /// `NodeState::place_tombstone`. Where it fails all is as it was.
+    /// Places the tombstone of that identifier among what the node serves, and sees the mark after
+    /// that.
+    ///
+    /// # Errors
+    ///
+    /// N7; then N8; then the others of `NodeState::place_tombstone` (by a clause of a private
+    /// call). Leaves `seen`, and the node's state likewise.
     pub fn place_tombstone(
         &self,
         rt: &impl Wait,
         id: SegmentId,
         seen: &mut Mark,
     ) -> Result<(), NodeFault>
+        ensures changed { OnOk result (Changes I.number (λ old new. Covers old new id) seen.old seen.new) }
         ensures raised { OnOk result (mark_cmp seen.old seen.new ≡ Less) }
         ensures own { OnOk result (seen.new.incarnation ≡ I.number) }
         ensures err { IfErr result (RefusesTombstone I.number id seen.old) }
+        ensures cause { (id.partition ≡ 0)
+            → IfErr result (RefusesChange I.number (λ old. RefusesToCover old.history id) seen.old) }
         ensures unseen { OnErr result (seen.new ≡ seen.old) }
     {
         if id.partition() != 0 {
@@ -273,17 +300,24 @@ impl<I: Incarnation> DataNode<I> {
         self.state.lock(rt).place_tombstone(id, seen)
     }
 
-    /// Drops a segment or a tombstone, and sees the mark after that. N8 where the node's state is older than what was seen, and
-    /// then the refusals of `NodeState::drop_segment`. Where it fails all is as it was.
+    /// Drops a segment or a tombstone, and sees the mark after that.
+    ///
+    /// # Errors
+    ///
+    /// N8; then those of `NodeState::drop_segment` (by a clause of a private call). Leaves `seen`,
+    /// and the node's state likewise.
     pub fn drop_segment(
         &self,
         rt: &impl Wait,
         id: &SegmentId,
         seen: &mut Mark,
     ) -> Result<(), NodeFault>
+        ensures changed { OnOk result (Changes I.number (λ old new. Drops old new id.now) seen.old seen.new) }
         ensures raised { OnOk result (mark_cmp seen.old seen.new ≡ Less) }
         ensures own { OnOk result (seen.new.incarnation ≡ I.number) }
         ensures err { IfErr result (RefusesDrop I.number seen.old) }
+        ensures cause { IfErr result (RefusesChange I.number
+            (λ old. RefusesToDrop old.history (described_named id.now old.history.set)) seen.old) }
         ensures unseen { OnErr result (seen.new ≡ seen.old) }
     {
         self.state.lock(rt).drop_segment(id, seen)

@@ -1,3 +1,4 @@
+//! Why a node did not do what it was asked to.
 ghost use Rattle.std.specs.Prelude.{◌≡◌};
 ghost use Rattle.druid_node.specs.declared.fault.NodeFault.TheVariants.{Memory};
 

@@ -1,4 +1,5 @@
-//! The segments that a node holds.
+//! The segments that a node holds: a sorted list of counted references, which answers share. A load
+//! beside an answer copies the references and no identifier; a map would copy its keys too.
 ghost use Rattle.std.specs.Prelude.{◌≡◌, ◌<◌, [], length, map, None, Some, IsTrue, IsSome, IfSome, IfNone, IfOk, IfErr, OnOk, OnErr};
 ghost use Rattle.std.specs.Arc.{arc_value};
 ghost use Rattle.std.specs.List.{slice_get};

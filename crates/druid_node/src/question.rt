@@ -1,9 +1,11 @@
 //! What a request asks of a node's state. No state is at hand where that is read.
-ghost use Rattle.std.specs.Prelude.{◌≡◌, ◌≢◌, IfOk, IfErr};
+ghost use Rattle.std.specs.Prelude.{◌≡◌, ◌≢◌, IsSome, IfOk, IfErr, OnErr};
+ghost use Rattle.druid_sync.specs.Asks.{ask_at};
+ghost use Rattle.druid_message.specs.Requests.{path_of};
 ghost use Rattle.druid_query.specs.Refused.{refusal_text};
 ghost use Rattle.druid_wire.specs.Served.{Tells};
-ghost use Rattle.druid_node.specs.Routes.{AnswersAsk, AnswersQuery, AnswersAt, Responds};
-ghost use Rattle.druid_node.specs.Questions.{Asks};
+ghost use Rattle.druid_node.specs.Routes.{AnswersAsk, AnswersQuery, AnswersAt, Responds, TakesMemory, route_of};
+ghost use Rattle.druid_node.specs.Questions.{Asks, IsOpen};
 
 use crate::NodeFault;
 use crate::routes::{Route, route_of};
@@ -51,7 +53,8 @@ fn refuse(alloc: Global, fault: QueryFault) -> Result<Question, NodeFault>
 }
 
 fn of_parameters(parameters: &str) -> Question
-    ensures { Asks result (λ old new. AnswersAsk old new parameters.now) }
+    ensures asks { Asks result (λ old new. AnswersAsk old new parameters.now) }
+    ensures takes { IsOpen result → IsSome (ask_at parameters.now) }
 {
     match read_ask(parameters) {
         Ok(ask) => Question::Reply(ask),
@@ -70,7 +73,8 @@ fn of_body(alloc: Global, body: &[u8]) -> Result<Question, NodeFault>
 }
 
 fn segments(request: &Request) -> Question
-    ensures { Asks result (λ old new. AnswersAt Route.Segments old new request.now) }
+    ensures asks { Asks result (λ old new. AnswersAt Route.Segments old new request.now) }
+    ensures takes { IsOpen result → TakesMemory Route.Segments request.now }
 {
     if !request.has_method("GET") {
         return Question::Settled(Response::other_method());
@@ -81,6 +85,8 @@ fn segments(request: &Request) -> Question
 fn query(alloc: Global, request: &Request) -> Result<Question, NodeFault>
     ensures ok { IfOk result (λ q. Asks q (λ old new. AnswersAt Route.Query old new request.now)) }
     ensures err { IfErr result (λ fault. fault ≡ NodeFault.Memory) }
+    ensures takes { IfOk result (λ q. IsOpen q → TakesMemory Route.Query request.now) }
+    ensures memory { OnErr result (TakesMemory Route.Query request.now) }
 {
     if !request.has_method("POST") {
         return Ok(Question::Settled(Response::other_method()));
@@ -91,6 +97,8 @@ fn query(alloc: Global, request: &Request) -> Result<Question, NodeFault>
 fn question_at(alloc: Global, route: Route, request: &Request) -> Result<Question, NodeFault>
     ensures ok { IfOk result (λ q. Asks q (λ old new. AnswersAt route old new request.now)) }
     ensures err { IfErr result (λ fault. fault ≡ NodeFault.Memory) }
+    ensures takes { IfOk result (λ q. IsOpen q → TakesMemory route request.now) }
+    ensures memory { OnErr result (TakesMemory route request.now) }
 {
     match route {
         Route::Health => Ok(Question::Settled(Response::health(request))),
@@ -104,6 +112,8 @@ fn question_at(alloc: Global, route: Route, request: &Request) -> Result<Questio
 pub(crate) fn question_of(alloc: Global, request: &Request) -> Result<Question, NodeFault>
     ensures ok { IfOk result (λ q. Asks q (λ old new. Responds old new request.now)) }
     ensures err { IfErr result (λ fault. fault ≡ NodeFault.Memory) }
+    ensures takes { IfOk result (λ q. IsOpen q → TakesMemory (route_of (path_of request.now.target)) request.now) }
+    ensures memory { OnErr result (TakesMemory (route_of (path_of request.now.target)) request.now) }
 {
     question_at(alloc, route_of(request.path()), request)
 }

@@ -6,10 +6,10 @@ ghost use Rattle.druid_shard.specs.declared.change.Change.TheVariants.{Load};
 ghost use Rattle.druid_shard.specs.Described.{Described};
 ghost use Rattle.druid_changes.specs.Kept.{IsKept, described_named};
 ghost use Rattle.druid_node.specs.State.{IsState, Freezes, Takes, Leaves, Covers, Refuses, RefusesToDrop, RefusesToCover};
-ghost use Rattle.druid_node.specs.Seen.{mark_of, IsStale, IsAtLeast, RefusesAsSeen};
+ghost use Rattle.druid_node.specs.Seen.{mark_of, Changes, Drops, RefusesChange, IsStale, IsAtLeast, RefusesAsSeen};
 ghost use Rattle.druid_node.specs.Questions.{IsBasisInTurn, IsBasisFrom, IsMadeInTurn};
 
-use crate::basis::{Basis, answer_from};
+use crate::basis::{Basis, answer_from_parts};
 use crate::question::Question;
 use crate::{Incarnation, NodeFault, NodeState};
 use druid_rows::Segment;
@@ -18,6 +18,7 @@ use druid_shard::Mark;
 use druid_wire::Response;
 use std::alloc::Global;
 use std::marker::{Model, PhantomData};
+use std::thread::Threads;
 
 // What a state gave for an answer, and its mark.
 #[derive(Drop)]
@@ -81,6 +82,7 @@ impl<I: Incarnation> StateIn<I> {
     // Loads a segment, where it is not older than what was seen, and sees that.
     pub(crate) fn load(&mut self, segment: Segment, seen: &mut Mark) -> Result<(), NodeFault>
         ensures ok { OnOk result (IsAtLeast (mark_of self.old) seen.old × Takes self.old self.new segment × (seen.new ≡ mark_of self.new)) }
+        ensures changed { OnOk result (Changes I.number (λ old new. Takes old new segment) seen.old seen.new) }
         ensures raised { OnOk result (mark_cmp seen.old seen.new ≡ Less) }
         ensures own { OnOk result (seen.new.incarnation ≡ I.number) }
         ensures err { IfErr result (RefusesAsSeen I.number (Refuses self.old.history (Load segment.descriptor)) (mark_of self.old) seen.old) }
@@ -100,9 +102,11 @@ impl<I: Incarnation> StateIn<I> {
         seen: &mut Mark,
     ) -> Result<(), NodeFault>
         ensures ok { OnOk result (IsAtLeast (mark_of self.old) seen.old × Covers self.old self.new id × (seen.new ≡ mark_of self.new)) }
+        ensures changed { OnOk result (Changes I.number (λ old new. Covers old new id) seen.old seen.new) }
         ensures raised { OnOk result (mark_cmp seen.old seen.new ≡ Less) }
         ensures own { OnOk result (seen.new.incarnation ≡ I.number) }
         ensures err { IfErr result (RefusesAsSeen I.number (RefusesToCover self.old.history id) (mark_of self.old) seen.old) }
+        ensures cause { IfErr result (RefusesChange I.number (λ old. RefusesToCover old.history id) seen.old) }
         ensures unchanged { OnErr result (self.new ≡ self.old) }
         ensures unseen { OnErr result (seen.new ≡ seen.old) }
     {
@@ -116,9 +120,12 @@ impl<I: Incarnation> StateIn<I> {
     pub(crate) fn drop_segment(&mut self, id: &SegmentId, seen: &mut Mark) -> Result<(), NodeFault>
         ensures ok { OnOk result (IsAtLeast (mark_of self.old) seen.old
             × ((d : Described) × (described_named id.now self.old.history.set ≡ Some d) × Leaves self.old self.new d) × (seen.new ≡ mark_of self.new)) }
+        ensures changed { OnOk result (Changes I.number (λ old new. Drops old new id.now) seen.old seen.new) }
         ensures raised { OnOk result (mark_cmp seen.old seen.new ≡ Less) }
         ensures own { OnOk result (seen.new.incarnation ≡ I.number) }
         ensures err { IfErr result (RefusesAsSeen I.number (RefusesToDrop self.old.history (described_named id.now self.old.history.set)) (mark_of self.old) seen.old) }
+        ensures cause { IfErr result (RefusesChange I.number
+            (λ old. RefusesToDrop old.history (described_named id.now old.history.set)) seen.old) }
         ensures unchanged { OnErr result (self.new ≡ self.old) }
         ensures unseen { OnErr result (seen.new ≡ seen.old) }
     {
@@ -147,13 +154,18 @@ impl<I: Incarnation> StateIn<I> {
     }
 }
 
-// The answer that is made of that, or out of memory.
-pub(crate) fn answer_for(alloc: Global, based: Based) -> Answered
+// The answer that is made of that on so many threads at most, or out of memory.
+pub(crate) fn answer_for<R: Threads>(
+    rt: &R,
+    alloc: Global,
+    based: Based,
+    threads: usize,
+) -> Answered
     ensures mark { result.mark ≡ based.mark }
     ensures made { IsMadeInTurn based.basis result.response.status result.response.body }
 {
     let mark = based.mark;
-    let response = match answer_from(alloc, based.basis) {
+    let response = match answer_from_parts(rt, alloc, based.basis, threads) {
         Ok(response) => response,
         Err(_) => Response::out_of_memory(),
     };

@@ -13,6 +13,7 @@ use druid_shard::Mark;
 use druid_wire::{read_request, refuse_request, send_response};
 use std::io::{BufRead, Write};
 use std::sync::Wait;
+use std::thread::Threads;
 
 // Answers where no request was read.
 fn refuse_unread<W: Write>(fault: WireFault, writer: &mut W) -> Result<u16, NodeFault>
@@ -31,9 +32,9 @@ fn refuse_unread<W: Write>(fault: WireFault, writer: &mut W) -> Result<u16, Node
 
 impl<I: Incarnation> DataNode<I> {
     // Answers a request.
-    fn serve<W: Write>(
+    fn serve<R: Wait + Threads, W: Write>(
         &self,
-        rt: &impl Wait,
+        rt: &R,
         request: &Request,
         writer: &mut W,
         seen: &mut Mark,
@@ -60,17 +61,22 @@ impl<I: Incarnation> DataNode<I> {
         }
     }
 
-    /// Reads a request and writes the answer, and gives the status that was written: what `NodeState::respond` answers in a
-    /// state that is not older than what was seen, or 500 and `{"error":"Memory"}` where memory runs out for that; and it sees
-    /// that state's mark. An ask for all of more than 20,000 segments and tombstones freezes these, as `NodeState::since` does,
-    /// and is answered page 0 of them. X4 to X7 of the request are answered 400 with their number, and nothing is seen.
+    /// Reads a request and writes the answer, and gives the status that was written: what
+    /// `NodeState::respond` answers in a state that is not older than what was seen, or 500 and
+    /// `{"error":"Memory"}` where memory runs out for that; and it sees that state's mark. An ask
+    /// for all of more than 20,000 segments and tombstones freezes these, as `NodeState::since`
+    /// does, and is answered page 0 of them. X4 to X7 of the request are answered 400 with their
+    /// number, and nothing is seen. Nothing is flushed.
     ///
-    /// N5 of X1, X2 or X9 where no request was read, and nothing was written; then N8 where the node's state is older than what was
-    /// seen, and nothing was written; N5 of X3 or X9 where the writer failed, which then has some front of the answer, and not
-    /// the whole, and the set that was asked for may be frozen. Where it fails nothing is seen. Nothing is flushed.
+    /// # Errors
+    ///
+    /// N5 with X1, X2 or X9 where no request was read, and nothing is written; then N8, and nothing
+    /// is written, and the reader stands after the request; then N5 with X3 or X9 of the writer,
+    /// which has some front of the answer, and not the whole, and the set that was asked for may be
+    /// frozen. Leaves `seen`. (That 500 comes only of answers that allocate no clause says.)
     pub fn serve_one<R: BufRead, W: Write>(
         &self,
-        rt: &impl Wait,
+        rt: &(impl Wait + Threads),
         reader: &mut R,
         writer: &mut W,
         seen: &mut Mark,

@@ -1,3 +1,7 @@
+//! The state of a node. Tombstones stand in its history alone, so that a query for one is answered
+//! as missing; what else the history has is held. A load puts the segment first and records it
+//! last, and takes it out again where memory runs out for the record; a drop is judged before
+//! anything is copied, and cannot fail after that.
 ghost use Rattle.std.specs.Prelude.{◌≡◌, ◌≤◌, false, true, [], List, Some, None, IfOk, IfErr, OnOk, OnErr};
 ghost use Rattle.std.specs.Arc.{arc_value};
 ghost use Rattle.druid_shard.specs.Reply.{max_changes};
@@ -135,8 +139,12 @@ fn cover(held: &Held, history: &mut History, tombstone: Descriptor) -> Result<()
 }
 
 impl NodeState {
-    /// A node without segments, in an incarnation without changes, which keeps the last `kept` of those to come. N9 where
-    /// memory ran out.
+    /// A node without segments, in an incarnation without changes, which keeps the last `kept` of
+    /// those to come.
+    ///
+    /// # Errors
+    ///
+    /// N9.
     pub fn new(alloc: Global, incarnation: u64, kept: usize) -> Result<NodeState, NodeFault>
         requires incarnation { 1 ≤ incarnation }
         requires some { 1 ≤ kept }
@@ -172,9 +180,11 @@ impl NodeState {
         put(self.alloc, held, &mut self.history, segment)
     }
 
-    /// Loads a segment, and records it. N4 where the history refuses that: H1 where a segment or a tombstone of that identifier
-    /// is served, then H3 where 200,000 segments and tombstones are, then H4 at a count of 2^64 - 1. Then N9 where memory runs
-    /// out. A refused load leaves all as it was.
+    /// Loads a segment, and records it.
+    ///
+    /// # Errors
+    ///
+    /// N4 with H1, then H3, then H4; N9 last. Leaves all as it was.
     pub fn load(&mut self, segment: Segment) -> Result<(), NodeFault>
         ensures ok { OnOk result (Takes self.old self.new segment) }
         ensures err { IfErr result (Refuses self.old.history (Load segment.descriptor)) }
@@ -186,10 +196,11 @@ impl NodeState {
         }
     }
 
-    /// Places the tombstone of that identifier among what it serves, and records that as a load. N7 where the identifier is not
-    /// of partition 0. N4 where the history refuses that: H1 where a segment or a tombstone of that identifier is served, then
-    /// H3 where 200,000 segments and tombstones are, then H4 at a count of 2^64 - 1. Then N9 where memory runs out. Where it
-    /// fails all is as it was.
+    /// Places the tombstone of that identifier among what it serves, and records that as a load.
+    ///
+    /// # Errors
+    ///
+    /// N7; then N4 with H1, then H3, then H4; N9 last. Leaves all as it was.
     pub fn place_tombstone(&mut self, id: SegmentId) -> Result<(), NodeFault>
         ensures ok { OnOk result (Covers self.old self.new id) }
         ensures err { IfErr result (RefusesToCover self.old.history id) }
@@ -204,9 +215,11 @@ impl NodeState {
         }
     }
 
-    /// Drops the segment or the tombstone of that identifier, and records it. N4 where the history refuses that: H2 where no
-    /// such segment or tombstone is served, then H4 at a count of 2^64 - 1. Then N9 where memory runs out. A refused drop
-    /// leaves all as it was.
+    /// Drops the segment or the tombstone of that identifier, and records it.
+    ///
+    /// # Errors
+    ///
+    /// N4 with H2, then H4; N9 last. Leaves all as it was.
     pub fn drop_segment(&mut self, id: &SegmentId) -> Result<(), NodeFault>
         ensures ok { OnOk result ((d : Described) × (described_named id.now self.old.history.set ≡ Some d) × Leaves self.old self.new d) }
         ensures err { IfErr result (RefusesToDrop self.old.history (described_named id.now self.old.history.set)) }
@@ -228,8 +241,12 @@ impl NodeState {
         Ok(())
     }
 
-    /// What the segments that it holds tell of the pieces that are asked for, and the pieces of other segments. N9 where memory
-    /// was refused.
+    /// What the segments that it holds tell of the pieces that are asked for, and the pieces of
+    /// other segments.
+    ///
+    /// # Errors
+    ///
+    /// N9.
     pub fn answer(&self, sub: &SubQuery) -> Result<NodeAnswer, NodeFault>
         ensures ok { IfOk result (IsAnswerOf self.now.held sub.now) }
         ensures err { IfErr result (λ fault. fault ≡ NodeFault.Memory) }
@@ -251,11 +268,18 @@ impl NodeState {
         }
     }
 
-    /// What it answers to a broker that follows it: all that it serves, or the changes after the broker's mark, or a page of the
-    /// set that it froze, or why it has not these. `Ask::Whole` is answered the snapshot of up to 20,000 segments and tombstones.
-    /// Where there are more, it freezes that set, unless one is frozen, and answers page 0 of the frozen set, at the mark at which
-    /// that was frozen. `Ask::Page` is answered that page of the set that is frozen at that mark, and else a reset. A frozen set
-    /// is given up once more changes than are kept came after it. N9 where memory runs out for copies, which leaves all as it was.
+    /// What it answers to a broker that follows it: all that it serves, or the changes after the
+    /// broker's mark, or a page of the set that it froze, or why it has not these. `Ask::Whole` is
+    /// answered the snapshot of up to 20,000 segments and tombstones. Where there are more, it
+    /// freezes that set, unless one is frozen, and answers page 0 of the frozen set, at the mark at
+    /// which that was frozen. `Ask::Page` is answered that page of the set that is frozen at that
+    /// mark, and else a reset. A frozen set is given up once more changes than are kept came after
+    /// it.
+    ///
+    /// # Errors
+    ///
+    /// N9, but never in place of a reset of an ask for changes, or of one for a page of another
+    /// incarnation. Leaves all as it was.
     pub fn since(&mut self, ask: &Ask) -> Result<Reply, NodeFault>
         ensures ok { IfOk result (λ reply. (history : List Event) → StandsFor self.old.history history
             → answer self.old.history.incarnation history self.old.history.limit (frozen_count self.old.history.frozen) ask.now

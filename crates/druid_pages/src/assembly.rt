@@ -29,6 +29,21 @@ impl Model for Assembly {
     ghost view = { λ a. a.parts };
 }
 
+impl Clone for Assembly {
+    ghost is_clone = { λ assembly copy. copy ≡ assembly };
+
+    fn clone(&self) -> Result<Assembly, AllocError> {
+        let parts = match &self.parts {
+            Some(parts) => Some(parts.copy(self.alloc)?),
+            None => None,
+        };
+        Ok(Assembly {
+            alloc: self.alloc,
+            parts,
+        })
+    }
+}
+
 impl Assembly {
     /// No page has come.
     pub fn new(alloc: Global) -> Assembly
@@ -102,11 +117,16 @@ impl Assembly {
         }
     }
 
-    /// Takes a page, whatever its place, and gives the segments of all pages, by identifier and at most 200,000, once all have
-    /// come: then it keeps none. A page of a later mark than those that have come begins anew, and one of an earlier mark is
-    /// passed over, as is one that has come before. `Conflict` where a page of their mark is one of another number of pages, has
-    /// other segments than when it came before, or completes pages that do not rise from one to the next; `Memory` where memory
-    /// runs out. A page that is refused leaves all as it was.
+    /// Takes a page, whatever its place, and gives the segments of all pages, by identifier and at
+    /// most 200,000, once all have come: then it keeps none. A page of a later mark than those that
+    /// have come begins anew, and one of an earlier mark is passed over, as is one that has come
+    /// before.
+    ///
+    /// # Errors
+    ///
+    /// `Conflict` where a page of their mark is one of another number of pages, has other segments
+    /// than when it came before, or completes pages that do not rise from one to the next; `Memory`
+    /// only where the page would be taken. Leaves all as it was.
     pub fn take(
         &mut self,
         at: Mark,

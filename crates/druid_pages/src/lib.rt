@@ -1,4 +1,5 @@
 //! Pages: how a set of segments that is too large for one message is cut, and put together again.
+//! Replies are not known here, so histories cut pages without the crate of inventories.
 #![tactic(auto)]
 
 mod assembly;

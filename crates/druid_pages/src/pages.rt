@@ -36,6 +36,10 @@ pub(crate) fn copies_of(
 }
 
 /// Copies of the segments of that page of a set, counted from 0; none past its last page.
+///
+/// # Errors
+///
+/// Out of memory.
 pub fn page_of(alloc: Global, set: &[Descriptor], page: u16) -> Result<Vec<Descriptor>, AllocError>
     ensures { IfOk result (λ segments. segments.items ≡ page_at set.now page) }
 {

@@ -57,7 +57,35 @@ fn are_same(a: &[Descriptor], b: &[Descriptor]) -> bool
     a == b
 }
 
+// Copies of pages, each at its number.
+fn copies_of_pages(
+    alloc: Global,
+    pages: &[Option<Descriptors>],
+) -> Result<Vec<Option<Descriptors>>, AllocError>
+    ensures { IfOk result (λ copies. copies.items ≡ pages.now) }
+{
+    let mut copies = Vec::new(alloc);
+    for page in pages {
+        let copy = match page {
+            Some(segments) => Some(Items::new(copies_of(alloc, segments.as_slice())?)),
+            None => None,
+        };
+        copies.push(copy)?;
+    }
+    Ok(copies)
+}
+
 impl Parts {
+    // A copy.
+    pub(crate) fn copy(&self, alloc: Global) -> Result<Parts, AllocError>
+        ensures { IfOk result (λ parts. parts ≡ self.now) }
+    {
+        Ok(Parts {
+            at: self.at,
+            pages: copies_of_pages(alloc, &self.pages)?,
+        })
+    }
+
     // None of so many pages.
     pub(crate) fn new(alloc: Global, at: Mark, of: u16) -> Result<Parts, AllocError>
         requires { of ≤ max_pages }

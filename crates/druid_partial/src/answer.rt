@@ -1,3 +1,4 @@
+//! What is answered of pieces of segments, by a node and by whoever gathers of nodes.
 ghost use Rattle.std.specs.Prelude.{◌≡◌};
 
 use crate::Partial;

@@ -1,3 +1,4 @@
+//! Groups of rows in a result.
 ghost use Rattle.std.specs.Prelude.{◌≡◌};
 ghost use Rattle.druid_filter.specs.Values.{nullable_texts_of};
 ghost use Rattle.druid_partial.specs.Groups.{key_cmp, AreWords};

@@ -1,5 +1,5 @@
-//! Facts that hold of all results. A group is what one row tells, or what some rows of one key tell together, so results are
-//! merged by the definition that makes them.
+//! Facts that hold of all results. A group is what one row tells, or what some rows of one key tell
+//! together, so results are merged by the definition that makes them.
 ghost use Rattle.std.specs.Prelude.{◌≡◌, List, [], ◌++◌};
 ghost use Rattle.druid_query.specs.declared.aggregator.AggregatorKind.{AggregatorKind};
 ghost use Rattle.druid_partial.specs.Groups.{Group, IsResult, IsMerge};

@@ -1,4 +1,5 @@
-//! Merges of partials.
+//! Merges of partials of the same aggregators. That both are of one query is what keeps the merge
+//! one of that query; its values are right in any case.
 ghost use Rattle.std.specs.Prelude.{◌≡◌, ◌+◌, ◌<◌, ◌≤◌, [], ◌∷◌, None, IfOk, IfErr, IfSome, IfNone, vec_len, vec_capacity, reverse};
 ghost use Rattle.druid_query.specs.Query.{Query};
 ghost use Rattle.druid_partial.specs.Groups.{IsMerge};
@@ -50,10 +51,12 @@ fn take_next(
     }
 }
 
-/// The merge of two partials of one query: the keys of both, each with what the aggregators tell of the rows of both. It
-/// moves the groups, and allocates for their list alone, before it begins.
+/// The merge of two partials of one query: the keys of both, each with what the aggregators tell of
+/// the rows of both. It moves the groups, and allocates for their list alone, before it begins.
 ///
-/// Out of memory gives both back as they were.
+/// # Errors
+///
+/// `MergeRefused`, out of memory, gives both back as they were.
 pub fn merge(alloc: Global, left: Partial, right: Partial) -> Result<Partial, MergeRefused>
     requires { left.kinds ≡ right.kinds }
     ensures groups { IfOk result (λ both. IsMerge left.kinds left.groups right.groups both.groups) }

@@ -1,3 +1,5 @@
+//! Partial results. They are sorted lists and no maps: so they are read, written and merged in
+//! order, and a contract's value is the one list that the rows have.
 ghost use Rattle.std.specs.Prelude.{◌≡◌, [], IfOk};
 ghost use Rattle.druid_partial.specs.Groups.{IsResult};
 ghost use Rattle.druid_partial.specs.Partials.{Partial, IsPartial, IsPartialFor, kinds_of};
@@ -26,6 +28,10 @@ impl Model for Partial {
 }
 
 /// What each aggregator of the query tells.
+///
+/// # Errors
+///
+/// Out of memory.
 pub fn kinds_of(alloc: Global, query: &Query) -> Result<Vec<AggregatorKind>, AllocError>
     ensures { IfOk result (λ kinds. kinds.items ≡ kinds_of query.now) }
 {
@@ -46,6 +52,10 @@ impl Partial {
     }
 
     /// What the query tells of no rows.
+    ///
+    /// # Errors
+    ///
+    /// Out of memory.
     #[tactic(auto, using(crate::proofs::OrderLemmas::no_groups, crate::proofs::OrderLemmas::no_rows))]
     pub fn empty(alloc: Global, query: &Query) -> Result<Partial, AllocError>
         ensures groups { IfOk result (λ partial. partial.groups ≡ []) }

@@ -1,4 +1,5 @@
 pub mod TokenLemmas
+pub mod SpeltLemmas
 pub mod TextBackLemmas
 pub mod ReadLemmas
 pub mod RowLemmas

@@ -31,7 +31,7 @@ use Rattle.druid_partial_text.specs.declared.reading.Borrowed.{Borrowed}
 
 -- ---- copied item by item
 
-map-append : {A B : Type 0} (f : A → B) (xs : List A) (x : A) → map f (xs ++ x ∷ []) ≡ map f xs ++ f x ∷ []
+pub map-append : {A B : Type 0} (f : A → B) (xs : List A) (x : A) → map f (xs ++ x ∷ []) ≡ map f xs ++ f x ∷ []
 map-append f [] x = refl
 map-append f (y ∷ xs) x = ap (λ l. f y ∷ l) (map-append f xs x)
 

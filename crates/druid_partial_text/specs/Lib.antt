@@ -1,10 +1,11 @@
 -- what public contracts rest on
-pub mod Written
-pub mod Read
-pub mod Answers
 -- words of private contracts
-pub mod Tokens
+pub mod Answers
 pub mod Borrowed
-pub mod Named
 pub mod Missed
+pub mod Named
 pub mod PieceOrder
+pub mod Read
+pub mod Spelt
+pub mod Tokens
+pub mod Written

@@ -11,6 +11,7 @@ ghost use Rattle.druid_partial_text.specs.Missed.{AreLists, TellBoth};
 
 use crate::missing::{are_pieces, missing_in};
 use crate::reading::{partial_in, rows_in};
+use crate::spelt::answer_in_form;
 use crate::{NodeAnswer, PartialFault};
 use druid_base::{JsonFault, list_field, parse_json};
 use druid_query::SubQuery;
@@ -64,9 +65,13 @@ fn answer_in(
     Ok(Some(NodeAnswer::new(partial, pieces)))
 }
 
-/// The answer of a node that a value is: P2 where it has another shape than `node_answer_text` writes, `read_partial` refuses
-/// its rows as P2, or a piece that it lists as missing was not asked for; P9 where memory runs out, which comes before P2
-/// only where it is for two rows of one key or for a piece that was not asked for.
+/// The answer of a node that a value is.
+///
+/// # Errors
+///
+/// P2 where the value has another shape than `node_answer_text` writes, `read_partial` refuses its
+/// rows as P2, or a piece that it lists as missing was not asked for. P9 last, but for two rows of
+/// one key and for a piece that was not asked for.
 #[tactic(auto, using(crate::proofs::MissedLemmas::no_lists, crate::proofs::MissedLemmas::lists_answer, crate::proofs::MissedLemmas::not_both, crate::proofs::MissedLemmas::both_reported))]
 pub fn answer_of(alloc: Global, sub: &SubQuery, value: &Value) -> Result<NodeAnswer, PartialFault>
     ensures { IsAnswer sub.now (view value.now) result }
@@ -81,7 +86,12 @@ pub fn answer_of(alloc: Global, sub: &SubQuery, value: &Value) -> Result<NodeAns
     }
 }
 
-/// Reads the answer of a node to a query: P1 where the bytes are no JSON in UTF-8, then the refusals of the value.
+/// Reads the answer of a node to a query.
+///
+/// # Errors
+///
+/// P1; then those of `answer_of`. Parsing allocates as it goes: of bytes in UTF-8 P9 may come in
+/// place of any. An answer that misses nothing and stands as it is written takes no tree.
 pub fn read_node_answer(
     alloc: Global,
     sub: &SubQuery,
@@ -89,6 +99,11 @@ pub fn read_node_answer(
 ) -> Result<NodeAnswer, PartialFault>
     ensures { IsAnswerOf sub.now bytes.now result }
 {
+    match answer_in_form(alloc, sub, bytes) {
+        Ok(Some(answer)) => return Ok(answer),
+        Ok(None) => {}
+        Err(_) => return Err(PartialFault::Memory),
+    }
     match parse_json(alloc, bytes) {
         Ok(value) => answer_of(alloc, sub, &value),
         Err(JsonFault::NotJson) => Err(PartialFault::NotJson),

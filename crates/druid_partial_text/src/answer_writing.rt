@@ -71,6 +71,10 @@ fn push_answer(alloc: Global, out: &mut Writer, answer: &NodeAnswer) -> Result<(
 
 /// The text of an answer: `{"missing":[..],"rows":[..]}`, with the pieces that the node has not as in a query to it, and with
 /// the rows as `partial_text` writes them.
+///
+/// # Errors
+///
+/// Out of memory.
 #[tactic(auto, using(crate::proofs::AnswerLemmas::answer_printed, crate::proofs::AnswerTextLemmas::answer_read))]
 pub fn node_answer_text(alloc: Global, answer: &NodeAnswer) -> Result<String, AllocError>
     ensures text { IfOk result (λ text. string_bytes text ≡ answer_text answer.now) }

@@ -9,6 +9,7 @@ mod piece_ref;
 mod reading;
 mod results;
 mod shortfall;
+mod spelt;
 mod text_laws;
 mod tokens;
 mod writing;

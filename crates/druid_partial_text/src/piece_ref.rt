@@ -1,3 +1,4 @@
+//! Pieces of borrowed segments, in an order.
 ghost use Rattle.std.specs.Prelude.{◌≡◌, Some, refl};
 ghost use Rattle.druid_query.specs.AskedOrder.{same_asked, same_asked-per, same_asked-equiv};
 ghost use Rattle.druid_partial_text.specs.PieceOrder as order;

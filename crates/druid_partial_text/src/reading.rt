@@ -35,7 +35,7 @@ fn number_of(value: &Value) -> Option<Option<i64>>
 
 // The instant that is so many milliseconds after 1970.
 #[tactic(auto, using(crate::proofs::ReadLemmas::instant_new))]
-fn instant_of(ms: i64) -> Option<Instant>
+pub(crate) fn instant_of(ms: i64) -> Option<Instant>
     ensures { result ≡ instant_of ms }
 {
     Instant::new(ms)
@@ -261,7 +261,7 @@ fn is_ascending(groups: &[Group]) -> bool
 
 // Groups in the order of a result, unless a key stands twice.
 #[tactic(auto, using(crate::proofs::MadeLemmas::ascending, crate::proofs::MadeLemmas::not_ascending))]
-fn in_order(mut groups: Vec<Group>) -> Option<Vec<Group>>
+pub(crate) fn in_order(mut groups: Vec<Group>) -> Option<Vec<Group>>
     ensures some { IfSome result (λ made. IsPermutation groups.items made.items) }
     ensures ordered { IfSome result (λ made. InOrder made.items) }
     ensures none { IfNone result ((rows : List Group) → IsPermutation groups.items rows → InOrder rows → ⊥) }
@@ -311,10 +311,13 @@ pub(crate) fn partial_in(
     }
 }
 
-/// Reads a partial of a query: P2 where the value has another shape than `partial_text` writes, a row has not as many values
-/// and numbers as the query asks, its time is no bucket of the query, a number is no whole number of 64 bits, a count is
-/// null, or two rows have one key. The rows may stand in any order. P9 where memory runs out, which comes before P2 only
-/// where it is for two rows of one key.
+/// Reads a partial of a query. The rows may stand in any order.
+///
+/// # Errors
+///
+/// P2 where the value has another shape than `partial_text` writes, a row has not as many values
+/// and numbers as the query asks, its time is no bucket of the query, a number is no whole number
+/// of 64 bits, a count is null, or two rows have one key. P9 last, but for two rows of one key.
 #[tactic(auto, using(crate::proofs::MadeLemmas::no_rows, crate::proofs::MadeLemmas::rows_listed, crate::proofs::MadeLemmas::not_reported, crate::proofs::MadeLemmas::is_reported))]
 pub fn read_partial(alloc: Global, query: &Query, value: &Value) -> Result<Partial, PartialFault>
     ensures read { IsRead query.now (view value.now) result }

@@ -200,6 +200,10 @@ pub(crate) fn push_rows(
 /// The text of a result of the query: a list of rows in order. A `timeseries` has
 /// `{"result":{..},"timestamp":t}` for each, and a `groupBy` `{"event":{..},"timestamp":t,"version":"v1"}`, with the values
 /// at their output names and the numbers at the names of their aggregators.
+///
+/// # Errors
+///
+/// Out of memory.
 #[tactic(auto, using(crate::proofs::ResultLemmas::result_printed))]
 pub fn result_text(alloc: Global, query: &Query, partial: &Partial) -> Result<String, AllocError>
     requires { IsPartialFor query.now partial.now }

@@ -38,6 +38,10 @@ fn push_shortfall(
 
 /// What a client gets where pieces are missing: `{"error":"SegmentsMissing","missing":[..],"partial":[..]}`, with the pieces
 /// as in a query to a node, and the rows as `result_text` writes them.
+///
+/// # Errors
+///
+/// Out of memory.
 #[tactic(auto, using(crate::proofs::ResultLemmas::shortfall_printed))]
 pub fn shortfall_text(
     alloc: Global,

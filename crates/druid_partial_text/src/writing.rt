@@ -42,6 +42,10 @@ pub(crate) fn push_groups(out: &mut Writer, groups: &[Group]) -> Result<(), Allo
 
 /// The text of a partial: a list of `[ms,[text or null, ..],[number or null, ..]]`, in the order of a result, each with the
 /// first instant of its bucket, and with the values and the numbers in the order of the query.
+///
+/// # Errors
+///
+/// Out of memory.
 #[tactic(auto, using(crate::proofs::TokenLemmas::partial_printed, crate::proofs::TextBackLemmas::partial_read))]
 pub fn partial_text(alloc: Global, partial: &Partial) -> Result<String, AllocError>
     ensures text { IfOk result (λ text. string_bytes text ≡ partial_text partial.now.groups) }

@@ -1,4 +1,6 @@
-//! The program but for its handles: what its words ask for, how it ends, and what it reports.
+//! The program but for its handles: what its words ask for, how it ends, and what it reports, under
+//! one contract (`run`). `druid_cluster` and `druid_serve` know no words, and print nothing of why
+//! they end.
 #![tactic(auto)]
 
 mod config_file;

@@ -29,6 +29,10 @@ fn start_writer<
 
 /// A log of the level that a text names, `info` or `debug`, whose lines a thread writes to the writer as they come; of any other text
 /// nothing is logged, and there is no thread.
+///
+/// # Errors
+///
+/// `DeviceFailed`: no thread, or memory.
 pub fn start_log<
     R: Wait + Threads + Clock + Copy + Send + Sync + 'static,
     E: Write + Drop + Send + 'static,

@@ -111,12 +111,17 @@ fn report_stop<E: Write>(
     )
 }
 
-/// Serves the cluster of a config, prints the answers to its queries, and ends once each broker answered the connections from
-/// outside that the config asks for; a cluster without an end does not return (`druid_serve::serve`). Where the environment names a part
-/// of the cluster, that is served. It ends with status 0, or
-/// with that of the fault that it reports on the error writer; where the environment asks for it, what kept the cluster stands below it, in a
-/// line that is indented, unless memory ran out for it. Status 0 only where the bytes are a config, and of each of its queries
-/// something was printed; where they are none, nothing is printed.
+/// Serves the cluster of a config, prints the answers to its queries, and ends once each broker
+/// answered the connections from outside that the config asks for; a cluster without an end does
+/// not return (`druid_serve::serve`). Where the environment names a part of the cluster, that is
+/// served. Where the environment asks for it, what kept the cluster stands below the fault that is
+/// reported, in a line that is indented, unless memory ran out for it. Status 0 only where the
+/// bytes are a config, and of each of its queries something was printed.
+///
+/// # Errors
+///
+/// Those of `druid_serve::serve`, on the error writer: status 1 of a config or a folder, 3 of a
+/// device.
 pub fn serve_config<
     R: Files<File = File>
         + Net<Listener = TcpListener, Stream = TcpStream>
@@ -182,11 +187,18 @@ where
     }
 }
 
-/// The whole program, over its arguments, what the environment asks, standard input, standard output and standard error. `replay` alone answers the commands
-/// of the input, and `serve CONFIG` serves the cluster of the config at that path; each reports a fault on the error writer, and
-/// below it, where the environment asks for it, what ended the run or kept the cluster, in a line that is indented, unless memory ran out for
-/// it. Any other words get the usage line there, with status 2, and arguments that could not be read end with status 3 as a device
-/// that fails at line 1: then nothing is read or written.
+/// The whole program, over its arguments, what the environment asks, standard input, standard
+/// output and standard error. `replay` alone answers the commands of the input, and `serve CONFIG`
+/// serves the cluster of the config at that path; each reports a fault on the error writer, and
+/// below it, where the environment asks for it, what ended the run or kept the cluster, in a line
+/// that is indented, unless memory ran out for it.
+///
+/// # Errors
+///
+/// Status 3, as a device that fails at line 1, where the arguments could not be read; 2, with the
+/// usage line, where they are other words: nothing is read or written but that. 1 of a bad command,
+/// 3 of a device. Of `serve` 3 where the file cannot be read, 1 of more than 16 MiB (both tested),
+/// then those of `serve_config`.
 pub fn run<
     R: Files<File = File>
         + Net<Listener = TcpListener, Stream = TcpStream>

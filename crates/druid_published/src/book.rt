@@ -1,4 +1,6 @@
-//! The list of what is published. It stands in contracts alone: what threads share of it is its length.
+//! The list of what is published. It stands in contracts alone: what threads share of it is its
+//! length. That each view and receipt has a front of the one list, and that a publish adds its pair
+//! at the end in one step, is the rule of that word.
 ghost use Rattle.std.specs.Prelude.{◌≡◌, []};
 ghost use Rattle.druid_published.specs.Rules.{head_of};
 

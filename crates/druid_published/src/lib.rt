@@ -1,4 +1,6 @@
-//! An inventory that one publisher owns, and views in other threads read without waiting.
+//! An inventory that one publisher owns, and views in other threads read without waiting. What is
+//! shown stands in two places, of which readers look at one (`left_right`); which front of the list
+//! of replies a thread has is known by `logbook`.
 #![tactic(auto)]
 
 mod book;

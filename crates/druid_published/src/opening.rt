@@ -1,4 +1,6 @@
-//! What a publisher begins with.
+//! What a publisher begins with. It shows once more what it shows, which makes room: after the step
+//! of a publish nothing is allocated. This rests on how the kit's queue grows; no clause says it,
+//! nor when B3 comes.
 ghost use Rattle.std.specs.Prelude.{◌≡◌, ◌≤◌, [], replicate, IfOk, IfErr};
 ghost use Rattle.std.specs.Arc.{arc_value};
 ghost use Rattle.left_right.specs.Sides.{view};
@@ -94,8 +96,12 @@ fn views_of<J: Publication>(
     Ok(views)
 }
 
-/// A publisher of an inventory, with nothing published, and so many views of it, which have seen nothing. B9 where memory
-/// is refused.
+/// A publisher of an inventory, with nothing published, and so many views of it, which have seen
+/// nothing.
+///
+/// # Errors
+///
+/// B9.
 pub fn open<J: Publication, R: Wait + Drop>(
     alloc: Global,
     rt: R,

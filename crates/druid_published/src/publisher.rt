@@ -1,4 +1,6 @@
-//! A publisher, the one owner of an inventory.
+//! A publisher, the one owner of an inventory. What is late is seen by what is shown: where more
+//! than that changed something, a publish or `show_again` shows all, and no mark has to be kept
+//! that a failed show sets.
 ghost use Rattle.std.specs.Prelude.{◌≡◌, ◌≢◌, ◌↔◌, ◌⊎◌, ◌++◌, ◌∷◌, [], None, IfOk, IfErr, OnOk, OnErr, IsErrOf, slice_get, slice_set};
 ghost use Rattle.std.specs.Arc.{arc_value};
 ghost use mathlib.Core.List.{IsPrefix};
@@ -191,13 +193,17 @@ impl<J: Publication, R: Wait + Drop> Publisher<J, R> {
         }
     }
 
-    /// Publishes a reply of a node, in one step: it is what was published last, and the inventory what it makes of the
-    /// one before. The receipt is for all that is published then. B1 where the reply is not applied, and B9 last, where
-    /// memory runs out, or as much is published as can be counted; then all stays as it was.
+    /// Publishes a reply of a node, in one step: it is what was published last, and the inventory
+    /// what it makes of the one before. The receipt is for all that is published then.
     ///
     /// A reply that moves no entry is published, and what is shown stays. Else it waits for those that still read what was
     /// shown before. Room for what is shown is made by `open`; should memory be refused after the step all the same, the
     /// reply is published, and shown with the next one, whatever that is, or by `show_again`.
+    ///
+    /// # Errors
+    ///
+    /// B1 with what `Inventory::apply` refuses, in its order; B9 last, also where as much is
+    /// published as can be counted. Leaves all as it was.
     pub fn publish(
         &mut self,
         node: NodeNo,
@@ -350,9 +356,13 @@ impl<J: Publication, R: Wait + Drop> Publisher<J, R> {
         Ok(seen)
     }
 
-    /// Shows the views all that is published, where memory ran out when it was to be shown; else it does nothing. So a view that had
-    /// no reading has one again. It waits for those that still read what was shown before. B9 where memory runs out again; what is
-    /// published stays in either case.
+    /// Shows the views all that is published, where memory ran out when it was to be shown; else it
+    /// does nothing. So a view that had no reading has one again. It waits for those that still
+    /// read what was shown before. What is published stays.
+    ///
+    /// # Errors
+    ///
+    /// B9. Leaves all as it was.
     pub fn show_again(&mut self) -> Result<(), PublishFault>
         ensures published { self.new.published ≡ self.old.published }
         ensures inventory { self.new.inventory ≡ self.old.inventory }

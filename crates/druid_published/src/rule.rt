@@ -1,4 +1,6 @@
-//! The rule of what views are shown: it is the fold of its list, from the inventory that each named place knows.
+//! The rule of what views are shown: it is the fold of its list, from the inventory that each named
+//! place knows. It keeps of each place which list it is of, since notes of `left_right` cannot
+//! carry what a receipt says.
 ghost use Rattle.druid_published.specs.Places.{unnamed, Follows, Names};
 
 use crate::shown::Shown;

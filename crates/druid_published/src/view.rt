@@ -99,10 +99,15 @@ impl<J: Publication> View<J> {
         View { place, seen }
     }
 
-    /// What is published, without waiting. B3 where the publisher is gone, or where what the view has seen changed
-    /// something that is not shown: it learned of a publish for which memory ran out when it was to be shown, and neither
-    /// another publish nor `Publisher::show_again` came since. B9 where the owners of the inventory are too many to be
-    /// counted.
+    /// What is published, without waiting.
+    ///
+    /// # Errors
+    ///
+    /// B3 where the publisher is gone, or where what the view has seen changed something that is
+    /// not shown: it learned of a publish for which memory ran out when it was to be shown, and
+    /// neither another publish nor `Publisher::show_again` came since. B9 where the owners of the
+    /// inventory are too many to be counted. (When either comes no clause says: it is tested.)
+    /// Leaves what the view has seen.
     pub fn read(&mut self) -> Result<Arc<Inventory, Global>, PublishFault>
         ensures prefix { IfOk result (λ _. IsPrefix self.old self.new) }
         ensures fold { IfOk result (λ found. arc_value found ≡ fold_of J.opening self.new) }

@@ -1,3 +1,4 @@
+//! What a query asks of each group of rows.
 ghost use Rattle.std.specs.Prelude.{◌≡◌, IfOk, option_map};
 
 use druid_base::copy_text;
@@ -40,6 +41,10 @@ impl Model for Aggregator {
 
 impl Aggregator {
     /// An aggregator of that name and kind, over that field.
+    ///
+    /// # Errors
+    ///
+    /// Out of memory.
     pub fn new(
         alloc: Global,
         name: &str,

@@ -1,3 +1,4 @@
+//! What a query groups rows by.
 ghost use Rattle.std.specs.Prelude.{◌≡◌, IfOk};
 
 use std::alloc::{AllocError, Global};
@@ -24,6 +25,10 @@ impl Model for Dimension {
 
 impl Dimension {
     /// That dimension, which goes by that name in the result.
+    ///
+    /// # Errors
+    ///
+    /// Out of memory.
     pub fn new(alloc: Global, dimension: &str, output_name: &str) -> Result<Dimension, AllocError>
         ensures { IfOk result (λ made. made ≡ record { dimension = dimension.now; output_name = output_name.now }) }
     {

@@ -1,3 +1,4 @@
+//! Why a text is no query.
 ghost use Rattle.std.specs.Prelude.{◌≡◌, option_map};
 ghost use Rattle.druid_query.specs.Refused.{code_of, field_of};
 

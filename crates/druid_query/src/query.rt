@@ -1,3 +1,5 @@
+//! Queries. Copies share their parts, so that each request to a node has the query itself without a
+//! copy of its filter.
 ghost use Rattle.std.specs.Prelude.{◌≡◌, IfOk, option_map};
 ghost use Rattle.druid_filter.specs.Filters.{says};
 ghost use Rattle.druid_query.specs.Query.{query_of};
@@ -61,6 +63,10 @@ impl Model for Query {
 
 impl Query {
     /// A query of these parts. Requires that some JSON reads as it.
+    ///
+    /// # Errors
+    ///
+    /// Out of memory.
     pub fn new(
         alloc: Global,
         kind: QueryType,

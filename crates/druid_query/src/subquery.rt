@@ -1,3 +1,4 @@
+//! Queries to a node, each with the pieces of segments that it is to be answered from.
 ghost use Rattle.std.specs.Prelude.{◌≡◌};
 
 use crate::Query;

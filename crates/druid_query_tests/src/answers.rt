@@ -77,7 +77,7 @@ fn is_written_of(rt: &impl Abort, alloc: Global, row: &str) -> bool {
 }
 
 #[test]
-fn ample_memory(rt: HostRuntime) {
+fn answers_written_again(rt: HostRuntime) {
     for row in ANSWERS.lines() {
         assert!(rt; is_written(&rt, rt.alloc(), row), "{row}");
     }

@@ -25,6 +25,6 @@ fn are_pieces_back(rt: &impl Abort, alloc: Global) -> bool {
 }
 
 #[test]
-fn ample_memory(rt: HostRuntime) {
+fn pieces_read_again(rt: HostRuntime) {
     assert!(rt; are_pieces_back(&rt, rt.alloc()));
 }

@@ -12,6 +12,7 @@ use druid_time::Interval;
 use std::alloc::Global;
 use std::process::Abort;
 use std::sync::Wait;
+use std::thread::Threads;
 
 // In what follows a segment of 2024-01-01 is its version, its hours and its partition, `v1/10-12/0`, and a piece the same
 // and its own hours. Rows stand as in `partial`.
@@ -141,7 +142,8 @@ fn descriptor(rt: &impl Abort, alloc: Global, text: &str) -> Descriptor {
     Descriptor::new(id, 1, 0).expect(rt, "a descriptor")
 }
 
-fn segment(rt: &impl Abort, alloc: Global, text: &str) -> Segment {
+/// The segment of a text, as the rows above have it.
+pub(crate) fn segment(rt: &impl Abort, alloc: Global, text: &str) -> Segment {
     let (head, rows) = text.split_once(" ").expect(rt, "rows");
     segment_of(rt, alloc, descriptor(rt, alloc, head), rows)
 }
@@ -152,8 +154,8 @@ fn file_name(rt: &impl Abort, alloc: Global, segment: &Segment) -> String {
     name
 }
 
-// Loads the segment from its file.
-fn load<R: Abort + Wait>(
+/// Loads the segment from its file.
+pub(crate) fn load<R: Abort + Wait>(
     rt: &R,
     alloc: Global,
     layout: Layout,
@@ -199,7 +201,8 @@ fn pieces(rt: &impl Abort, alloc: Global, text: &str) -> String {
     all
 }
 
-fn query(rt: &impl Abort, alloc: Global, asked: &str, query: &str) -> String {
+/// A subquery of these pieces.
+pub(crate) fn query(rt: &impl Abort, alloc: Global, asked: &str, query: &str) -> String {
     let pieces = pieces(rt, alloc, asked);
     format!(in alloc;
         "{{\"dataSource\":\"w\",\"granularity\":\"all\",\"intervals\":{{\"type\":\"segments\",\"segments\":[{pieces}]}},\"queryIntervals\":[\"2024-01-01/2024-01-02\"],{query}}}"
@@ -211,7 +214,12 @@ fn answer(rt: &impl Abort, alloc: Global, missing: &str, rows: &str) -> String {
     format!(in alloc; "200 {{\"missing\":[{missing}],\"rows\":{rows}}}").expect(rt, "memory")
 }
 
-fn is_row<R: Abort + Wait>(rt: &R, alloc: Global, layout: Layout, row: &[&str; 5]) -> bool {
+fn is_row<R: Abort + Wait + Threads>(
+    rt: &R,
+    alloc: Global,
+    layout: Layout,
+    row: &[&str; 5],
+) -> bool {
     let [segments, asked, kind, missing, rows] = row;
     let node = node(rt, alloc, layout, segments);
     let body = query(rt, alloc, asked, kind);

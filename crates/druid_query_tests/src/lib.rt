@@ -1,7 +1,8 @@
 //! What no contract says of queries, of partials and of data nodes: worked examples over texts, files and messages, printed
-//! texts, that calls succeed with ample memory, and drawn queries beside a plain computation. `context` is of
-//! `druid_context`, `subquery` of `druid_query_text`, `partial` of `druid_scan` too, `answers` of `druid_partial_text`, `node`, `queries` and `columns` of
-//! `druid_node`, and `drawn` of `druid_scan` over files by columns.
+//! texts, that calls succeed with ample memory, and drawn queries beside a plain computation (`plain`, with the filters of
+//! `condition`). `context` is of `druid_context`, `subquery` of `druid_query_text`, `partial` of `druid_scan` too, `answers` of
+//! `druid_partial_text`, `node`, `queries`, `columns` and `threads` of `druid_node`, `drawn` of `druid_scan` over files by
+//! columns, and `slices` of it over several segments.
 #![tactic(auto)]
 
 #[cfg(test)]
@@ -10,6 +11,8 @@ mod answers;
 mod asked_text;
 #[cfg(test)]
 mod columns;
+#[cfg(test)]
+mod condition;
 #[cfg(test)]
 mod context;
 #[cfg(test)]
@@ -21,6 +24,8 @@ mod partial;
 #[cfg(test)]
 mod partial_text;
 #[cfg(test)]
+mod plain;
+#[cfg(test)]
 mod printing;
 #[cfg(test)]
 mod queries;
@@ -31,4 +36,8 @@ mod query_text;
 #[cfg(test)]
 mod sizes;
 #[cfg(test)]
+mod slices;
+#[cfg(test)]
 mod subquery;
+#[cfg(test)]
+mod threads;

@@ -10,6 +10,7 @@ use druid_store::MemoryFolder;
 use std::alloc::Global;
 use std::process::Abort;
 use std::sync::Wait;
+use std::thread::Threads;
 
 // One row of the source `w` at a second of 1970, of `x` and 5, as another program spells it: examples/vector.dsg.
 fn vector() -> &'static str {
@@ -112,9 +113,14 @@ impl Incarnation for First {
     ghost number = { 1 };
 }
 
-/// A node of incarnation 1 without segments, which keeps two changes.
+/// A node of incarnation 1 without segments, which keeps two changes and counts a query on so many threads.
+pub(crate) fn node_of(rt: &impl Abort, alloc: Global, threads: usize) -> DataNode<First> {
+    DataNode::new(NodeState::new(alloc, 1, 2).expect(rt, "memory"), threads)
+}
+
+/// The same, which counts on one.
 pub(crate) fn empty_node(rt: &impl Abort, alloc: Global) -> DataNode<First> {
-    DataNode::new(NodeState::new(alloc, 1, 2).expect(rt, "memory"))
+    node_of(rt, alloc, 1)
 }
 
 /// The same node, with the segment of `w`, from a file of that layout.
@@ -211,7 +217,7 @@ fn is_response(rt: &impl Abort, alloc: Global, status: u16, bytes: &[u8], wanted
 }
 
 /// Whether the node answers the message so: `200 true`, or the fault, where nothing is written.
-pub(crate) fn answers<R: Abort + Wait>(
+pub(crate) fn answers<R: Abort + Wait + Threads>(
     rt: &R,
     alloc: Global,
     node: &DataNode<First>,
@@ -226,7 +232,7 @@ pub(crate) fn answers<R: Abort + Wait>(
     }
 }
 
-fn is_answered<R: Abort + Wait>(
+fn is_answered<R: Abort + Wait + Threads>(
     rt: &R,
     alloc: Global,
     node: &DataNode<First>,
@@ -307,7 +313,7 @@ POST /druid/v2 HTTP/1.1|Content-Length: 16777217||{} = 400 {\"error\":\"X7\"}
 POST /druid/v2 HTTP/1.1|Content-Length: 99999999999999999999||{} = 400 {\"error\":\"X7\"}";
 
 #[test]
-fn ample_memory(rt: HostRuntime) {
+fn messages(rt: HostRuntime) {
     let node = node(&rt, rt.alloc(), Layout::ByRows);
     for row in MESSAGES.lines() {
         assert!(rt;
@@ -351,7 +357,7 @@ fn head(rt: &impl Abort, alloc: Global, kind: &str, size: usize) -> String {
     format!(in alloc; "GET /status/health HTTP/1.1\r\n{fields}\r\n").expect(rt, "memory")
 }
 
-fn is_head_answered<R: Abort + Wait>(
+fn is_head_answered<R: Abort + Wait + Threads>(
     rt: &R,
     alloc: Global,
     node: &DataNode<First>,
@@ -389,7 +395,7 @@ fn with_changes(rt: &impl Abort, alloc: Global, text: &str) -> String {
 }
 
 // Whether the node answers an ask so.
-fn is_reported<R: Abort + Wait>(
+fn is_reported<R: Abort + Wait + Threads>(
     rt: &R,
     alloc: Global,
     node: &DataNode<First>,
@@ -404,7 +410,7 @@ fn is_reported<R: Abort + Wait>(
 }
 
 // Asserts that the node answers each ask so.
-fn assert_reported<R: Abort + Wait>(
+fn assert_reported<R: Abort + Wait + Threads>(
     rt: &R,
     alloc: Global,
     node: &DataNode<First>,
@@ -501,7 +507,7 @@ const LOADED: &str =
 load wiki_2024-01-01T00:00:00.000Z_2024-01-02T00:00:00.000Z_v1_3.seg = ok";
 
 // Asserts that the rows hold, and that the node then answers so.
-fn assert_goes_on<R: Abort + Wait>(
+fn assert_goes_on<R: Abort + Wait + Threads>(
     rt: &R,
     alloc: Global,
     layout: Layout,
@@ -524,7 +530,7 @@ const STEPS: [(&str, &str); 4] = [
 ];
 
 // Whether a node goes through all of it, from files of that layout.
-fn assert_steps<R: Abort + Wait>(rt: &R, alloc: Global, layout: Layout) {
+fn assert_steps<R: Abort + Wait + Threads>(rt: &R, alloc: Global, layout: Layout) {
     let node = empty_node(rt, alloc);
     let mut seen = Mark::never();
     for rows in &STEPS {
@@ -545,6 +551,56 @@ fn assert_steps<R: Abort + Wait>(rt: &R, alloc: Global, layout: Layout) {
 fn node_after_load(rt: HostRuntime) {
     for layout in LAYOUTS {
         assert_steps(&rt, rt.alloc(), layout);
+    }
+}
+
+// Whether a folder was synced, whether a stop keeps what was not, and what is then told of the file of `w`: a file that was written
+// since the last sync is empty where a stop does not keep it.
+const STOPS: [(bool, bool, &str); 4] = [
+    (true, true, "ok"),
+    (true, false, "ok"),
+    (false, true, "ok"),
+    (false, false, "N2: F2: a cut file"),
+];
+
+// What a node that is started over a folder tells of the file of `w`.
+fn started<R: Abort + Wait>(rt: &R, alloc: Global, folder: &mut MemoryFolder) -> String {
+    let node = empty_node(rt, alloc);
+    match node.load_file(rt, folder, VECTOR_FILE, &mut Mark::never()) {
+        Ok(()) => printed(rt, alloc, &"ok"),
+        Err(fault) => printed(rt, alloc, &fault),
+    }
+}
+
+// Whether a stop leaves that. It falls after a start that tells this of the file, or before any where this is empty.
+fn leaves<R: Abort + Wait>(
+    rt: &R,
+    alloc: Global,
+    before: &str,
+    (is_synced, keep, wanted): (bool, bool, &str),
+) -> bool {
+    let mut files = folder(rt, alloc, Layout::ByRows);
+    if is_synced {
+        files.sync().expect(rt, "a sync");
+    }
+    if before.starts_with("N1") {
+        files.fuse(0);
+    }
+    let is_told = before.is_empty() || started(rt, alloc, &mut files).as_str() == before;
+    files.stop(keep).expect(rt, "a stop");
+    is_told && started(rt, alloc, &mut files).as_str() == wanted
+}
+
+// A stop before the only call of a load, at it, and after it.
+#[test]
+fn stopped_loads(rt: HostRuntime) {
+    for before in ["", "N1: the device failed", "ok"] {
+        for (is_synced, keep, wanted) in STOPS {
+            assert!(rt;
+                leaves(&rt, rt.alloc(), before, (is_synced, keep, wanted)),
+                "{before}: {is_synced} {keep}"
+            );
+        }
     }
 }
 
@@ -574,7 +630,7 @@ const MISSED: &str =
 const COUNTED: &str = "200 {\"missing\":[],\"rows\":[[0,[],[1]]]}";
 
 // Asserts that the node answers that query so.
-fn assert_asked<R: Abort + Wait>(
+fn assert_asked<R: Abort + Wait + Threads>(
     rt: &R,
     alloc: Global,
     node: &DataNode<First>,

@@ -153,7 +153,14 @@ fn part(rt: &impl Abort, alloc: Global, query: &Query, text: &str) -> Partial
     partial_of(alloc, query, &segment, day(rt)).expect(rt, "memory")
 }
 
-fn both(rt: &impl Abort, alloc: Global, query: &Query, first: Partial, second: Partial) -> Partial
+/// What two partials tell.
+pub(crate) fn both(
+    rt: &impl Abort,
+    alloc: Global,
+    query: &Query,
+    first: Partial,
+    second: Partial,
+) -> Partial
     requires first { IsPartialFor query.now first }
     requires second { IsPartialFor query.now second }
     ensures { IsPartialFor query.now result }
@@ -210,7 +217,7 @@ fn are_kinds(rt: &impl Abort, alloc: Global) -> bool {
 }
 
 #[test]
-fn ample_memory(rt: HostRuntime) {
+fn results(rt: HostRuntime) {
     for line in RESULTS.lines() {
         for in_front in [false, true] {
             assert!(rt; is_result(&rt, rt.alloc(), line, in_front), "{line}");

@@ -118,7 +118,7 @@ fn is_reported_short(rt: &impl Abort, alloc: Global, row: &str) -> bool {
 }
 
 #[test]
-fn ample_memory(rt: HostRuntime) {
+fn partials_and_results(rt: HostRuntime) {
     for row in PARTIALS.lines() {
         assert!(rt; is_written(&rt, rt.alloc(), row), "{row}");
     }

@@ -6,6 +6,7 @@ use druid_shard::Mark;
 use std::alloc::Global;
 use std::process::Abort;
 use std::sync::Wait;
+use std::thread::Threads;
 
 // A query of the source `w`, or of another, over pieces of a day of 1970: its kind, what follows its source, and the pieces.
 fn query(rt: &impl Abort, alloc: Global, source: &str, more: &str, pieces: &str) -> String {
@@ -37,7 +38,7 @@ fn pieces(rt: &impl Abort, alloc: Global, text: &str) -> String {
 }
 
 /// Whether a node answers the query so.
-pub(crate) fn is_answered<R: Abort + Wait>(
+pub(crate) fn is_answered<R: Abort + Wait + Threads>(
     rt: &R,
     alloc: Global,
     node: &DataNode<First>,
@@ -76,7 +77,12 @@ fn reported(rt: &impl Abort, alloc: Global, missing: &str, rows: &str) -> String
     format!(in alloc; "200 {{\"missing\":[{missing}],\"rows\":{rows}}}").expect(rt, "memory")
 }
 
-fn is_asked<R: Abort + Wait>(rt: &R, alloc: Global, node: &DataNode<First>, row: &str) -> bool {
+fn is_asked<R: Abort + Wait + Threads>(
+    rt: &R,
+    alloc: Global,
+    node: &DataNode<First>,
+    row: &str,
+) -> bool {
     let mut columns = row.split(';');
     let source = columns.next().expect(rt, "a source");
     let asked = columns.next().expect(rt, "pieces");
@@ -109,7 +115,12 @@ w;;0 00:00:01 1970-01-01T00:00:01;400 {\"error\":\"Q4\"}
 w;;0 00:00:00 1970-01-02T00:00:00,0 00:00:00 1970-01-02T00:00:00;400 {\"error\":\"Q4\"}
 w;;0 00:00:00 1970-01-01T00:00:02,1 00:00:00 1970-01-02T00:00:00,0 00:00:01 1970-01-02T00:00:00;400 {\"error\":\"Q4\"}";
 
-fn is_refused<R: Abort + Wait>(rt: &R, alloc: Global, node: &DataNode<First>, row: &str) -> bool {
+fn is_refused<R: Abort + Wait + Threads>(
+    rt: &R,
+    alloc: Global,
+    node: &DataNode<First>,
+    row: &str,
+) -> bool {
     let mut columns = row.split(';');
     let source = columns.next().expect(rt, "a source");
     let more = columns.next().expect(rt, "what else it has");
@@ -136,7 +147,12 @@ const OTHERS: &str =
 const COMMON: &str =
     "\"dataSource\":\"w\",\"granularity\":\"all\",\"intervals\":{\"type\":\"segments\",\"segments\":[{\"chunk\":\"1970-01-01/1970-01-02\",\"itvl\":\"1970-01-01/1970-01-02\",\"part\":0,\"ver\":\"v\"}]},\"queryIntervals\":[\"1970-01-01/1970-01-02\"]";
 
-fn is_reported<R: Abort + Wait>(rt: &R, alloc: Global, node: &DataNode<First>, row: &str) -> bool {
+fn is_reported<R: Abort + Wait + Threads>(
+    rt: &R,
+    alloc: Global,
+    node: &DataNode<First>,
+    row: &str,
+) -> bool {
     let (text, wanted) = row.split_once(" = ").expect(rt, "a row");
     let text = filled(rt, alloc, text, '@', COMMON);
     let body = format!(in alloc; "{{\"queryType\":{text}").expect(rt, "memory");

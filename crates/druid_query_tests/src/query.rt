@@ -25,7 +25,7 @@ fn assert_copied(rt: &impl Abort, alloc: Global) {
 }
 
 #[test]
-fn ample_memory(rt: HostRuntime) {
+fn parts_and_copies(rt: HostRuntime) {
     assert_parts(&rt, rt.alloc());
     assert_copied(&rt, rt.alloc());
 }

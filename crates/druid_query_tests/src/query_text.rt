@@ -202,7 +202,7 @@ fn is_deep(rt: &impl Abort, alloc: Global, row: &str) -> bool {
 }
 
 #[test]
-fn ample_memory(rt: HostRuntime) {
+fn queries(rt: HostRuntime) {
     for row in QUERIES.lines() {
         assert!(rt; is_reported(&rt, rt.alloc(), row), "{row}");
     }

@@ -103,7 +103,7 @@ fn counts_dimensions(rt: &impl Abort, alloc: Global, count: usize) -> bool {
 }
 
 #[test]
-fn ample_memory(rt: HostRuntime) {
+fn calls_succeed_with_memory(rt: HostRuntime) {
     for count in SIZES {
         assert!(rt; counts_seconds(&rt, rt.alloc(), count), "{count}");
     }

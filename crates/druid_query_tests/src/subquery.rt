@@ -172,7 +172,7 @@ fn is_made_again(rt: &impl Abort, alloc: Global) -> bool {
 }
 
 #[test]
-fn ample_memory(rt: HostRuntime) {
+fn subqueries(rt: HostRuntime) {
     for row in PIECES.lines() {
         assert!(rt; are_pieces_reported(&rt, rt.alloc(), row), "{row}");
     }
@@ -184,7 +184,7 @@ fn ample_memory(rt: HostRuntime) {
 }
 
 #[test]
-fn ample_memory_for_other_calls(rt: HostRuntime) {
+fn refused_and_made_again(rt: HostRuntime) {
     assert!(rt; is_reported(&rt, rt.alloc(), "[", "Q1: not JSON"));
     assert!(rt; is_reported(&rt, rt.alloc(), "[]", "Q2: no query of a known type"));
     assert!(rt; is_made_again(&rt, rt.alloc()));

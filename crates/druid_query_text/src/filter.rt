@@ -1,4 +1,5 @@
-//! Filters, read out of JSON and written.
+//! Filters, read out of JSON and written. They are walked three times: for their shape, for the
+//! limits, and to be built.
 ghost use Rattle.std.specs.Prelude.{◌&&◌, map, length, nat_le, string_bytes, Ok, ◌≡◌, ◌-◌, ◌≤◌, Some, IfOk, IsSome, IfSome, option_map, option_and_then, is_some};
 ghost use Rattle.std.specs.List.{list_all};
 ghost use Rattle.serde_json.specs.View.{view, items_view};

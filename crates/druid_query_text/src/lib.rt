@@ -1,4 +1,4 @@
-//! The texts of queries.
+//! The texts of queries and subqueries, which share the readers and writers of their parts.
 #![tactic(auto)]
 
 mod aggregator;

@@ -1,4 +1,6 @@
-//! The parts of a query, with borrowed texts: each is judged before anything is built.
+//! The parts of a query, with borrowed texts: each is judged before anything is built, and built of
+//! what was judged: no field is looked for twice. Queries and subqueries differ in where their
+//! intervals stand, which each judges and writes for itself.
 ghost use Rattle.std.specs.Prelude.{◌≡◌, IfOk, option_map};
 ghost use Rattle.serde_json.specs.View.{view};
 ghost use Rattle.druid_filter.specs.Filters.{says};

@@ -45,11 +45,14 @@ fn parts_of(value: &Value) -> Result<QueryRef<'_>, QueryFault>
     Ok(QueryRef::new(head, intervals, tail))
 }
 
-/// Reads a query. Q2 where the value is no object or no query of a known type; then field by field, in the order
-/// `dataSource`, `granularity`, `intervals`, `filter`, `dimensions`, `aggregations`, `descending`: Q3 for another shape, then
-/// Q4 for a text that is no interval, then Q5 for a limit; then Q3 for `postAggregations`, `virtualColumns`, `having`,
-/// `limitSpec`, `limit` and `subtotalsSpec`; then Q6 where two columns of the result have one name; and Q9 last. Other keys
-/// are passed over.
+/// Reads a query. Keys of which no refusal speaks are passed over.
+///
+/// # Errors
+///
+/// Q2; then field by field, in the order `dataSource`, `granularity`, `intervals`, `filter`,
+/// `dimensions`, `aggregations`, `descending`: Q3 for another shape, then Q4 for a text that is no
+/// interval, then Q5 for a limit; then Q3 for `postAggregations`, `virtualColumns`, `having`,
+/// `limitSpec`, `limit` and `subtotalsSpec`; then Q6; Q9 last.
 pub fn query_of(alloc: Global, value: &Value) -> Result<Query, QueryFault>
     ensures { Gives result (query_at (view value.now)) }
 {
@@ -60,8 +63,12 @@ pub fn query_of(alloc: Global, value: &Value) -> Result<Query, QueryFault>
     }
 }
 
-/// Reads a query out of a text: Q1 where the bytes are no JSON in UTF-8, and then the refusals of the value. Reading JSON takes
-/// memory as it goes, so Q9 may come before a fault that stands further on.
+/// Reads a query out of a text.
+///
+/// # Errors
+///
+/// Q1; then those of `query_of`. Parsing allocates as it goes: of bytes in UTF-8 Q9 may come in
+/// place of any.
 pub fn read_query(alloc: Global, bytes: &[u8]) -> Result<Query, QueryFault>
     ensures { IsReadOf bytes.now result }
 {
@@ -120,6 +127,10 @@ pub(crate) fn members_of(
 }
 
 /// The JSON of a query.
+///
+/// # Errors
+///
+/// Out of memory.
 pub fn query_value(alloc: Global, query: &Query) -> Result<Value, AllocError>
     ensures { IfOk result (λ v. view v ≡ query_data query.now) }
 {
@@ -130,6 +141,10 @@ pub fn query_value(alloc: Global, query: &Query) -> Result<Value, AllocError>
 
 /// The text of a query: its JSON, compact, with the keys in the order of their bytes. The data source is written as its name,
 /// the granularity in lower case, the intervals as a list, each dimension as an object, and null where there is no filter.
+///
+/// # Errors
+///
+/// Out of memory.
 #[tactic(auto, using(crate::proofs::PlainLemmas::query_plain, crate::proofs::DepthLemmas::query_deep))]
 pub fn query_text(alloc: Global, query: &Query) -> Result<String, AllocError>
     ensures text { IfOk result (λ text. string_bytes text ≡ query_text query.now) }

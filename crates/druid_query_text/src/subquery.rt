@@ -124,11 +124,16 @@ impl<'a> SubQueryRef<'a> {
     }
 }
 
-/// Reads a subquery: the refusals of `query_of`, in its order, where `intervals` holds an object of the type `segments` with
-/// the pieces that are asked for, and `queryIntervals`, which is read after it, a list of the query's own intervals. Q3 where
-/// no piece is asked for or one has another shape, its `part` and `ver` included; then Q4 where a text is no interval, a piece
-/// is not inside its segment, or two pieces of one segment overlap. To find the latter allocates: Q9 may come in place of
-/// that refusal and of readings after it, and else comes last.
+/// Reads a subquery: a query where `intervals` holds an object of the type `segments` with the
+/// pieces that are asked for, and `queryIntervals`, which is read after it, a list of the query's
+/// own intervals.
+///
+/// # Errors
+///
+/// Those of `query_of`, in its order; of the pieces Q3 where none is asked for or one has another
+/// shape, its `part` and `ver` included; then Q4 where a text is no interval, a piece is not inside
+/// its segment, or two pieces of one segment overlap. To find the last allocates: Q9 may come in
+/// place of it and of what follows it.
 pub fn subquery_of(alloc: Global, value: &Value) -> Result<SubQuery, QueryFault>
     ensures { GivesSub (view value.now) result }
 {
@@ -139,8 +144,12 @@ pub fn subquery_of(alloc: Global, value: &Value) -> Result<SubQuery, QueryFault>
     }
 }
 
-/// Reads a subquery out of a text: Q1 where the bytes are no JSON in UTF-8, and then the refusals of the value. Reading JSON
-/// allocates as it goes, so Q9 may come before a fault that stands further on.
+/// Reads a subquery out of a text.
+///
+/// # Errors
+///
+/// Q1; then those of `subquery_of`. Parsing allocates as it goes: of bytes in UTF-8 Q9 may come in
+/// place of any.
 pub fn read_subquery(alloc: Global, bytes: &[u8]) -> Result<SubQuery, QueryFault>
     ensures { IsReadBy subquery_at bytes.now result }
 {
@@ -163,6 +172,10 @@ fn segments_value(alloc: Global, asked: &[Asked]) -> Result<Value, AllocError>
 }
 
 /// The JSON of a subquery.
+///
+/// # Errors
+///
+/// Out of memory.
 pub fn subquery_value(alloc: Global, subquery: &SubQuery) -> Result<Value, AllocError>
     ensures { IfOk result (λ v. view v ≡ subquery_data subquery.now) }
 {
@@ -181,6 +194,10 @@ pub fn subquery_value(alloc: Global, subquery: &SubQuery) -> Result<Value, Alloc
 
 /// The text of a subquery: that of its query, where `intervals` holds the pieces, as an object of the type `segments`, and
 /// `queryIntervals` the intervals of the query.
+///
+/// # Errors
+///
+/// Out of memory.
 #[tactic(auto, using(crate::proofs::PlainLemmas::subquery_plain, crate::proofs::DepthLemmas::subquery_deep))]
 pub fn subquery_text(alloc: Global, subquery: &SubQuery) -> Result<String, AllocError>
     ensures text { IfOk result (λ text. string_bytes text ≡ subquery_text subquery.now) }

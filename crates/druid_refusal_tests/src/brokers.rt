@@ -1,9 +1,9 @@
-//! Plans, rounds of exchanges, turns, and what a broker answers.
+//! Plans, what is gathered, turns, and what a broker answers.
 ghost use Rattle.std.specs.Prelude.{◌≡◌, ◌≤◌, IsTrue, length};
 ghost use Rattle.druid_scatter.specs.Rounds.{AreLinked};
 
 use crate::marks::{assert_call, begin, end};
-use crate::replies::{inventory, is_at};
+use crate::replies::{inventory, is_at, is_reply};
 use crate::values::segment;
 use druid_broker::{Routes, serve_one};
 use druid_follow::{TurnFault, fetch, fetch_entry, seed_turn, shared_turn, sync_turn};
@@ -13,7 +13,7 @@ use druid_message::WireFault;
 use druid_published::{Opened, Publication, Publisher, Receipt, View, open};
 use druid_query::Query;
 use druid_query_text::read_query;
-use druid_scatter::{GatherFault, Plan, Rotate, ask_round, gather, plan};
+use druid_scatter::{GatherFault, Plan, Rotate, gather, plan};
 use druid_shard::{Descriptor, Mark, Reply};
 use druid_wire::response_of;
 use std::alloc::Global;
@@ -35,6 +35,10 @@ const ANSWER: &str = "{\"missing\":[],\"rows\":[[1704067200000,[],[3]]]}";
 // A reply of a node that serves the first partition of `v1`, and has done so many changes.
 const REPLY: &str =
     "{\"counter\":{\"counter\":~,\"hash\":1},\"from\":null,\"requests\":[{\"action\":\"load\",\"dataSource\":\"w\",\"interval\":\"2024-01-01/2024-01-02\",\"shardSpec\":{\"partitionNum\":0,\"partitions\":1,\"type\":\"numbered\"},\"size\":0,\"version\":\"v1\"}],\"resetCause\":null,\"resetCounter\":false}";
+
+// The reply of count 2 as it is written.
+const ANSWERED: &[u8] =
+    b"{\"counter\":{\"counter\":2,\"hash\":1},\"from\":null,\"requests\":[{\"action\":\"load\",\"dataSource\":\"w\",\"interval\":\"2024-01-01T00:00:00.000Z/2024-01-02T00:00:00.000Z\",\"shardSpec\":{\"partitionNum\":0,\"partitions\":1,\"type\":\"numbered\"},\"size\":0,\"version\":\"v1\"}],\"resetCause\":null,\"resetCounter\":false}";
 
 // A link that gives one response of status 200.
 fn link(rt: &impl Abort, alloc: Global, body: &str) -> MemoryLink {
@@ -120,28 +124,6 @@ fn gathers<R: Handle, L: Link + Send>(
     );
 }
 
-fn asks<R: Handle, L: Link + Send>(rt: R, alloc: Global, links: &mut [L]) {
-    let request = b"?".to_vec(alloc).expect(&rt, "memory");
-    let requests = vec![in alloc; Some(request)].expect(&rt, "memory");
-    if links.len() != requests.len() {
-        panic!(rt; "as many links as requests");
-    }
-    begin(&rt, alloc);
-    let answers = end(&rt, alloc, ask_round(&rt, alloc, links, &requests));
-    assert_call(
-        &rt,
-        "ask_round",
-        match &answers {
-            Ok(answers) => match answers.first() {
-                Some(Some(Ok(bytes))) => bytes.starts_with(b"HTTP/1.1 200 OK"),
-                Some(Some(Err(fault))) => *fault == WireFault::Memory,
-                _ => false,
-            },
-            Err(_) => true,
-        },
-    );
-}
-
 fn fetches(rt: &impl Abort, alloc: Global, inventory: &Inventory) {
     if inventory.node_count() == 0 {
         panic!(rt; "no node");
@@ -153,7 +135,7 @@ fn fetches(rt: &impl Abort, alloc: Global, inventory: &Inventory) {
         rt,
         "fetch",
         match &reply {
-            Ok(_) => true,
+            Ok(reply) => is_reply(rt, alloc, reply, ANSWERED),
             Err(fault) => *fault == TurnFault::Memory,
         },
     );
@@ -164,7 +146,7 @@ fn fetches(rt: &impl Abort, alloc: Global, inventory: &Inventory) {
         rt,
         "fetch_entry",
         match &reply {
-            Ok(_) => true,
+            Ok(reply) => is_reply(rt, alloc, reply, ANSWERED),
             Err(fault) => *fault == TurnFault::Memory,
         },
     );
@@ -320,8 +302,6 @@ fn of_plans(rt: HostRuntime) {
     plans(&rt, rt.alloc(), &inventory, &query);
     let mut links = vec![in rt.alloc(); link(&rt, rt.alloc(), ANSWER)].expect(&rt, "memory");
     gathers(&rt, rt.alloc(), &inventory, &query, &mut links);
-    let mut links = vec![in rt.alloc(); link(&rt, rt.alloc(), ANSWER)].expect(&rt, "memory");
-    asks(&rt, rt.alloc(), &mut links);
     fetches(&rt, rt.alloc(), &inventory);
 }
 

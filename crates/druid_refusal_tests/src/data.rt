@@ -9,7 +9,7 @@ use druid_partial::{Partial, kinds_of, merge};
 use druid_partial_text::{partial_text, result_text, shortfall_text};
 use druid_query::Query;
 use druid_rows::{Row, RowFault, Schema, Segment, SegmentBuilder};
-use druid_scan::{partial_of, partial_over};
+use druid_scan::{partial_of, partial_of_slices, partial_over};
 use druid_time::Instant;
 use druid_wire::{read_request, read_response, request_bytes};
 use http::Method;
@@ -105,9 +105,9 @@ fn builders(rt: &impl Abort, alloc: Global) {
     assert_call(
         rt,
         "SegmentBuilder::new",
-        match &made {
-            Ok(_) => true,
-            Err(fault) => *fault == RowFault::Memory,
+        match made {
+            Ok(builder) => builder.finish().is_empty(),
+            Err(fault) => fault == RowFault::Memory,
         },
     );
     let (second, schemas) = (descriptor(rt, alloc, "v1", 1), schema(rt, alloc));
@@ -202,6 +202,23 @@ fn partials(rt: &impl Abort, alloc: Global, query: &Query, segment: &Segment) {
     );
 }
 
+// As many rows as texts, so that all are counted at once.
+fn slices(rt: &impl Abort, alloc: Global, query: &Query, segment: &Segment) {
+    let front = vec![in alloc; day(rt)].expect(rt, "memory");
+    let back = vec![in alloc; day(rt)].expect(rt, "memory");
+    let slices = vec![in alloc; (segment, front), (segment, back)].expect(rt, "memory");
+    begin(rt, alloc);
+    let reported = end(rt, alloc, partial_of_slices(alloc, query, &slices));
+    assert_call(
+        rt,
+        "partial_of_slices",
+        match &reported {
+            Ok(reported) => reported.groups().len() == 2,
+            Err(_) => segment.len() == 2,
+        },
+    );
+}
+
 /// What a query tells of a segment.
 pub(crate) fn partial_for(
     rt: &impl Abort,
@@ -286,6 +303,7 @@ fn of_partials(rt: HostRuntime) {
     let segment = segment(&rt, rt.alloc());
     let query = asked_query(&rt, rt.alloc());
     partials(&rt, rt.alloc(), &query, &segment);
+    slices(&rt, rt.alloc(), &query, &segment);
     merges(&rt, rt.alloc(), &query, &segment);
     results(&rt, rt.alloc(), &query, &segment);
 }

@@ -121,7 +121,7 @@ fn start<R: Host + Net<Listener = TcpListener, Stream = TcpStream>>(
     }
 }
 
-// What a request comes to: the status that is told, and all that its client got until the connection was closed.
+// What a request comes to: the status that is given, and all that its client got until the connection was closed.
 #[derive(Drop)]
 struct Served {
     status: Option<u16>,

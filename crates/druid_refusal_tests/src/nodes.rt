@@ -12,12 +12,13 @@ use druid_segfile::write_segment;
 use druid_segid::SegmentId;
 use druid_serve_node::{Known, Reporter, Watch};
 use druid_server::Telemetry;
-use druid_shard::{Ask, Mark};
+use druid_shard::{Ask, Body, Mark, Reply};
 use druid_store::MemoryFolder;
 use http::Method;
 use std::alloc::{AllocError, Global};
 use std::process::Abort;
 use std::sync::{Arc, Wait};
+use std::thread::Threads;
 use std::time::Clock;
 
 // The incarnation of the nodes here.
@@ -72,6 +73,14 @@ fn make_state(rt: &impl Abort, alloc: Global) {
     );
 }
 
+// Whether a reply is the snapshot of one segment after three changes.
+fn is_served(reply: &Reply) -> bool {
+    match reply.body() {
+        Body::Snapshot { at, segments } => *at == Mark::new(1, 3) && segments.as_slice().len() == 1,
+        _ => false,
+    }
+}
+
 fn answers(rt: &impl Abort, alloc: Global, state: &mut NodeState) {
     let sub = subquery(rt, alloc);
     begin(rt, alloc);
@@ -90,7 +99,7 @@ fn answers(rt: &impl Abort, alloc: Global, state: &mut NodeState) {
         rt,
         "NodeState::since",
         match &reply {
-            Ok(_) => true,
+            Ok(reply) => is_served(reply),
             Err(fault) => *fault == NodeFault::Memory,
         },
     );
@@ -141,7 +150,7 @@ fn loads<R: Abort + Wait>(rt: &R, alloc: Global, node: &DataNode<First>, id: &Se
     assert_call(rt, "DataNode::place_tombstone", is_seen(reported, seen, 3));
 }
 
-fn serves<R: Abort + Wait>(rt: &R, alloc: Global, node: &DataNode<First>) {
+fn serves<R: Abort + Wait + Threads>(rt: &R, alloc: Global, node: &DataNode<First>) {
     let mut written = Vec::with_capacity(alloc, 100_000).expect(rt, "memory");
     let mut seen = Mark::never();
     let mut reader = b"GET /druid-internal/v1/segments HTTP/1.1\r\n\r\n".as_slice();
@@ -281,7 +290,7 @@ fn of_states(rt: HostRuntime) {
 #[test]
 fn of_nodes(rt: HostRuntime) {
     let state = NodeState::new(rt.alloc(), 1, 5).expect(&rt, "a node");
-    let node = DataNode::new(state);
+    let node = DataNode::new(state, 1);
     loads(
         &rt,
         rt.alloc(),
@@ -294,5 +303,5 @@ fn of_nodes(rt: HostRuntime) {
 #[test]
 fn of_looks(rt: HostRuntime) {
     let state = NodeState::new(rt.alloc(), 1, 5).expect(&rt, "a node");
-    looks(&rt, rt.alloc(), &DataNode::new(state));
+    looks(&rt, rt.alloc(), &DataNode::new(state, 1));
 }

@@ -1,5 +1,6 @@
 //! Histories, the texts of sync, inventories, and the world of events.
 use crate::marks::{assert_call, begin, copy_of, end};
+use crate::texts::prints;
 use crate::values::{descriptor, name};
 use druid_changes::{History, HistoryFault};
 use druid_inventory::{ApplyFault, Assembly, Inventory, InventoryFault, JoinFault, Outcome};
@@ -16,6 +17,24 @@ use std::str;
 // A reply of a node that has loaded the first partition of `v1`.
 const REPLY: &[u8] =
     b"{\"counter\":{\"counter\":1,\"hash\":1},\"from\":{\"counter\":0,\"hash\":1},\"requests\":[{\"action\":\"load\",\"dataSource\":\"w\",\"interval\":\"2024-01-01T00:00:00.000Z/2024-01-02T00:00:00.000Z\",\"shardSpec\":{\"partitionNum\":0,\"partitions\":2,\"type\":\"numbered\"},\"size\":7,\"version\":\"v1\"}],\"resetCause\":null,\"resetCounter\":false}";
+
+// A snapshot of that node.
+const SNAPSHOT: &[u8] =
+    b"{\"counter\":{\"counter\":1,\"hash\":1},\"from\":null,\"requests\":[{\"action\":\"load\",\"dataSource\":\"w\",\"interval\":\"2024-01-01T00:00:00.000Z/2024-01-02T00:00:00.000Z\",\"shardSpec\":{\"partitionNum\":0,\"partitions\":2,\"type\":\"numbered\"},\"size\":7,\"version\":\"v1\"}],\"resetCause\":null,\"resetCounter\":false}";
+
+// The snapshot of that node before all.
+const NOTHING: &[u8] =
+    b"{\"counter\":{\"counter\":0,\"hash\":1},\"from\":null,\"requests\":[],\"resetCause\":null,\"resetCounter\":false}";
+
+// A snapshot of a node that has loaded the first partition of `v2` instead.
+const LATER: &[u8] =
+    b"{\"counter\":{\"counter\":2,\"hash\":1},\"from\":null,\"requests\":[{\"action\":\"load\",\"dataSource\":\"w\",\"interval\":\"2024-01-01T00:00:00.000Z/2024-01-02T00:00:00.000Z\",\"shardSpec\":{\"partitionNum\":0,\"partitions\":2,\"type\":\"numbered\"},\"size\":7,\"version\":\"v2\"}],\"resetCause\":null,\"resetCounter\":false}";
+
+/// Whether a reply is written so.
+pub(crate) fn is_reply(rt: &impl Abort, alloc: Global, reply: &Reply, text: &[u8]) -> bool {
+    let written = reply_text(alloc, reply).expect(rt, "memory");
+    written.as_str().as_bytes() == text
+}
 
 fn load_once(rt: &impl Abort, alloc: Global) -> History {
     let mut history = History::new(alloc, 1, 10).expect(rt, "a history");
@@ -61,7 +80,15 @@ fn histories(rt: &impl Abort, alloc: Global) {
     assert_call(
         rt,
         "History::since",
-        delta.is_ok() || history.mark() == mark,
+        match &delta {
+            Ok(reply) => is_reply(
+                rt,
+                alloc,
+                reply,
+                if mark.count() == 0 { NOTHING } else { SNAPSHOT },
+            ),
+            Err(_) => history.mark() == mark,
+        },
     );
 }
 
@@ -77,7 +104,7 @@ fn replies(rt: &impl Abort, alloc: Global, value: &Value) {
         rt,
         "reply_of",
         match &read {
-            Ok(_) => true,
+            Ok(reply) => is_reply(rt, alloc, reply, REPLY),
             Err(fault) => *fault == SyncFault::Memory,
         },
     );
@@ -87,7 +114,7 @@ fn replies(rt: &impl Abort, alloc: Global, value: &Value) {
         rt,
         "read_reply",
         match &read {
-            Ok(_) => true,
+            Ok(reply) => is_reply(rt, alloc, reply, REPLY),
             Err(fault) => *fault == SyncFault::Memory,
         },
     );
@@ -111,7 +138,8 @@ fn sync_texts(rt: &impl Abort, alloc: Global) {
     );
     begin(rt, alloc);
     let value = end(rt, alloc, mark_value(alloc, Mark::new(1, 5)));
-    assert_call(rt, "mark_value", value.is_ok() || value.is_err());
+    let text = "{\"counter\":5,\"hash\":1}";
+    assert_call(rt, "mark_value", prints(rt, alloc, &value, text));
     begin(rt, alloc);
     let target = end(rt, alloc, ask_target(alloc, &Ask::Since(Mark::new(1, 5))));
     assert_call(
@@ -263,7 +291,7 @@ fn reads(rt: &impl Abort, alloc: Global, inventory: &Inventory) {
         rt,
         "Inventory::entry",
         match &entry {
-            Ok(_) => true,
+            Ok(reply) => is_reply(rt, alloc, reply, LATER),
             Err(fault) => *fault == InventoryFault::Memory,
         },
     );
@@ -273,7 +301,7 @@ fn reads(rt: &impl Abort, alloc: Global, inventory: &Inventory) {
         rt,
         "Inventory::entry_page",
         match &entry {
-            Ok(_) => true,
+            Ok(reply) => is_reply(rt, alloc, reply, LATER),
             Err(fault) => *fault == InventoryFault::Memory,
         },
     );
@@ -308,7 +336,7 @@ fn worlds(rt: &impl Abort, alloc: Global) {
         rt,
         "Sim::new",
         match &made {
-            Ok(_) => true,
+            Ok(sim) => sim.broker(1).is_some() && sim.broker(2).is_none(),
             Err(fault) => *fault == SimFault::Memory,
         },
     );

@@ -1,7 +1,8 @@
 //! Instants, identifiers, descriptors and replies.
 use crate::marks::{assert_call, begin, copy_of, end};
+use crate::texts::prints;
 use druid_segid::{GroupKey, IdFault, Name, SegmentId, Version};
-use druid_shard::{Change, Descriptor, Mark, Reply, ReplyFault};
+use druid_shard::{Body, Change, Descriptor, Mark, Reply, ReplyFault};
 use druid_shard_text::{ShardFault, descriptor_value, read_descriptor};
 use druid_time::{Interval, IntervalSet};
 use std::alloc::Global;
@@ -188,6 +189,28 @@ fn groups(rt: &impl Abort, alloc: Global, group: &GroupKey) {
     );
 }
 
+// The descriptor as it is written.
+const DESCRIPTOR_TEXT: &str =
+    "{\"dataSource\":\"w\",\"interval\":\"2024-01-01T00:00:00.000Z/2024-01-02T00:00:00.000Z\",\"shardSpec\":{\"partitionNum\":0,\"partitions\":2,\"type\":\"numbered\"},\"size\":7,\"version\":\"v1\"}";
+
+// Whether a reply is the delta of one change that was asked for.
+fn is_delta(reply: &Reply) -> bool {
+    match reply.body() {
+        Body::Delta { from, to, changes } => {
+            *from == Mark::new(1, 5) && *to == Mark::new(1, 6) && changes.as_slice().len() == 1
+        }
+        _ => false,
+    }
+}
+
+// Whether it is the snapshot of two segments.
+fn is_snapshot(reply: &Reply) -> bool {
+    match reply.body() {
+        Body::Snapshot { at, segments } => *at == Mark::new(1, 5) && segments.as_slice().len() == 2,
+        _ => false,
+    }
+}
+
 fn descriptors(rt: &impl Abort, alloc: Global, descriptor: &Descriptor) {
     let copy = copy_of(rt, alloc, descriptor);
     assert_call(
@@ -200,7 +223,11 @@ fn descriptors(rt: &impl Abort, alloc: Global, descriptor: &Descriptor) {
     );
     begin(rt, alloc);
     let value = end(rt, alloc, descriptor_value(alloc, descriptor));
-    assert_call(rt, "descriptor_value", value.is_err() || value.is_ok());
+    assert_call(
+        rt,
+        "descriptor_value",
+        prints(rt, alloc, &value, DESCRIPTOR_TEXT),
+    );
     let value = descriptor_value(alloc, descriptor).expect(rt, "memory");
     begin(rt, alloc);
     let read = end(rt, alloc, read_descriptor(alloc, &value));
@@ -236,7 +263,7 @@ fn changes(rt: &impl Abort, alloc: Global) {
         rt,
         "Reply::delta",
         match &made {
-            Ok(_) => true,
+            Ok(reply) => is_delta(reply),
             Err(fault) => *fault == ReplyFault::Memory,
         },
     );
@@ -254,7 +281,7 @@ fn snapshots(rt: &impl Abort, alloc: Global) {
         rt,
         "Reply::snapshot",
         match &made {
-            Ok(_) => true,
+            Ok(reply) => is_snapshot(reply),
             Err(fault) => *fault == ReplyFault::Memory,
         },
     );

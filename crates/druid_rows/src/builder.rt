@@ -1,3 +1,5 @@
+//! Segments made row by row, for readers of files: these would hold each row twice, once as it was
+//! read and once as it is kept, if they had to hand over all at once.
 ghost use Rattle.std.specs.Prelude.{◌≡◌, ◌↔◌, ◌-◌, [], true, false, IfOk, OnOk, OnErr, OnSome, SomeIff, IsErrOf, IsOkUnless};
 ghost use Rattle.druid_rows.specs.Rows.{texts_by, row_of, IsSchema, HasShape, IsInside, HasWords};
 ghost use Rattle.druid_rows.specs.Segment.{Segment, IsWithinLimits, HaveWords, IsSegment, segment_of, with_row, text_length, max_text};
@@ -38,9 +40,11 @@ impl Model for SegmentBuilder {
 }
 
 impl SegmentBuilder {
-    /// A segment that has no rows yet. `Tombstone` where the descriptor is one, then `BadSchema` where a name is no
-    /// field name or stands twice, then `TooLong` where there are more than 64 dimensions or 64 metrics, and then
-    /// `Memory`.
+    /// A segment that has no rows yet.
+    ///
+    /// # Errors
+    ///
+    /// U5; then U1; then U4; U9 last.
     pub fn new(
         alloc: Global,
         descriptor: Descriptor,
@@ -100,8 +104,11 @@ impl SegmentBuilder {
         row.room_after(self.room)
     }
 
-    /// Adds a row after the others. `TooLong` where a limit would be passed, then `RowShape`, then `RowOutside`, and
-    /// then `Memory`; a refusal leaves the rows as they were.
+    /// Adds a row after the others.
+    ///
+    /// # Errors
+    ///
+    /// U4 where a limit would be passed; then U3; then U2; U9 last. Leaves the rows as they were.
     pub fn push(&mut self, row: &Row) -> Result<(), RowFault>
         ensures ok { OnOk result (self.new ≡ with_row self.old row.now) }
         ensures err { OnErr result (self.new ≡ self.old) }
@@ -116,7 +123,11 @@ impl SegmentBuilder {
         self.push_ref(&row.lend())
     }
 
-    /// Adds a row of these values after the others, as `push` does. Each text is copied once, to where it stays.
+    /// Adds a row of these values after the others. Each text is copied once, to where it stays.
+    ///
+    /// # Errors
+    ///
+    /// Those of `push`. Leaves the rows as they were.
     pub fn push_values<T: AsStr>(
         &mut self,
         time: Instant,

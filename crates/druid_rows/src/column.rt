@@ -1,3 +1,4 @@
+//! The values of a dimension, as codes into its dictionary.
 ghost use Rattle.std.specs.Prelude.{◌≡◌, List, ℕ, ◌<◌, ◌≤◌, length, map, slice_index_or, None, All};
 ghost use Rattle.std.specs.Option.{option_map};
 ghost use Rattle.druid_rows.specs.Rows.{texts_of};

@@ -1,3 +1,4 @@
+//! The values of a dimension, as rows come.
 ghost use Rattle.std.specs.Prelude.{◌≡◌, [], ◌∷◌, ◌++◌, take, OnOk, OnErr};
 ghost use Rattle.std.specs.Option.{option_map};
 

@@ -1,3 +1,5 @@
+//! Whether a row passes a filter. Of a name that stands twice in a schema, which no segment has,
+//! the first place counts.
 ghost use Rattle.std.specs.Prelude.{◌≡◌, option_map, string_bytes};
 ghost use Rattle.std.specs.List.{list_any};
 ghost use Rattle.druid_filter.specs.Filters.{same_value, passes, all_pass, any_passes, value_in, says, each_says};

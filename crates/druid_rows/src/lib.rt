@@ -1,4 +1,4 @@
-//! Rows of segments.
+//! Schemas, rows and segments. Rows are kept by columns, and contracts see rows.
 #![tactic(auto)]
 
 mod builder;

@@ -1,3 +1,4 @@
+//! The texts of a dimension, numbered as they come, and put in order at the end.
 ghost use Rattle.std.specs.Prelude.{◌≡◌, ◌≢◌, string_bytes, ◌*◌, ◌↔◌, List, ℕ, suc, ◌+◌, ◌-◌, ◌^◌, ◌<◌, ◌≤◌, [], ◌∷◌, ◌++◌, set, length, map, take, slice_index_or, vec_capacity, Some, All, Contains, IsTrue, IfOk, OnOk, OnErr, OnSome};
 ghost use Rattle.std.specs.Option.{option_map};
 ghost use Rattle.std.specs.List.Sorted.{IsPermutation};

@@ -1,3 +1,4 @@
+//! The values of a metric.
 ghost use Rattle.std.specs.Prelude.{◌≡◌, ◌<◌, [], ◌∷◌, ◌++◌, length, take, slice_index_or, None, OnOk, OnErr};
 
 use std::alloc::{AllocError, Global};

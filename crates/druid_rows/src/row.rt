@@ -1,3 +1,4 @@
+//! Rows.
 ghost use Rattle.std.specs.Prelude.{◌≡◌};
 ghost use Rattle.druid_rows.specs.Rows.{nullable_texts_of};
 

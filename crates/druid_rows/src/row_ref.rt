@@ -1,3 +1,4 @@
+//! Rows whose values are borrowed, which are judged before they are copied.
 ghost use Rattle.std.specs.Prelude.{◌≡◌, ◌↔◌, ◌-◌, ◌≤◌, length, map, sum, IsTrue, IfSome, OnSome, SomeIff, FitsSigned};
 ghost use Rattle.std.specs.Int.{w64};
 ghost use Rattle.std.specs.Option.{option_map};

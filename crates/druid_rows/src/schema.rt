@@ -1,3 +1,5 @@
+//! The names of the fields of rows. Each two are compared, which is quadratic and takes no memory,
+//! so that U1 comes before out of memory; a segment has 128 names at most.
 ghost use Rattle.std.specs.Prelude.{◌≡◌, ◌↔◌, ℕ, ◌+◌, ◌-◌, ◌<◌, ◌≤◌, ◌++◌, [], length, IsTrue, All, SomeIff};
 ghost use Rattle.std.specs.List.{list_all};
 ghost use Rattle.druid_rows.specs.Names.{is_field_byte, is_field_name, IsFieldName};

@@ -1,3 +1,4 @@
+//! Segments. `Segment::new` judges all rows before it keeps any.
 ghost use Rattle.std.specs.Prelude.{◌≡◌, ◌↔◌, ◌*◌, true, false, List, ℕ, ◌-◌, ◌<◌, ◌≤◌, ◌==◌, length, map, sum, slice_index_or, None, All, IsTrue, SomeIff, IfOk, OnSome, OnOk, OnErr, IsOk, IsErrOf, IsOkUnless};
 ghost use Rattle.std.specs.List.Sorted.{IsNonDecreasing};
 ghost use Rattle.std.specs.Option.{option_map};
@@ -157,10 +158,11 @@ fn read_metrics(columns: &[Numbers])
 impl Segment {
     /// The segment of these rows, in this order.
     ///
-    /// `Tombstone` where the descriptor is one, then `BadSchema` where a name of the schema is no field name or stands
-    /// twice, then `TooLong` where there are more than 64 dimensions, 64 metrics or 100,000 rows, a value has more than 1,024 bytes, or the text of the segment
-    /// has more than 16,777,216, then `RowShape` where a row has another number of values than the schema has
-    /// fields, then `RowOutside` where a row lies outside the interval, and then `Memory`.
+    /// # Errors
+    ///
+    /// U5; then U1; then U4 of more than 64 dimensions, 64 metrics or 100,000 rows, of a value of
+    /// more than 1,024 bytes, or where the text of the segment has more than 16,777,216; then U3;
+    /// then U2; U9 last.
     pub fn new(
         alloc: Global,
         descriptor: Descriptor,
@@ -363,6 +365,10 @@ impl Segment {
     }
 
     /// A copy of the row at that place.
+    ///
+    /// # Errors
+    ///
+    /// Out of memory.
     pub fn row(&self, row: usize) -> Result<Row, AllocError>
         requires { row < length self.now.rows }
         ensures { IfOk result (λ copy. copy ≡ row_at self.now row) }

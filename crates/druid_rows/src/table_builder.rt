@@ -1,3 +1,4 @@
+//! Rows by columns, as they come.
 ghost use Rattle.std.specs.Prelude.{◌≡◌, ℕ, [], ◌∷◌, ◌++◌, ◌≤◌, length, map, take, replicate, vec_capacity, All, IfOk, OnOk, OnErr};
 ghost use Rattle.std.specs.Option.{option_map};
 ghost use Rattle.druid_rows.specs.Rows.{texts_by};

@@ -13,3 +13,5 @@ pub mod SourceLemmas
 pub mod RunLemmas
 pub mod PutLemmas
 pub mod SparseLemmas
+pub mod TextLemmas
+pub mod SliceLemmas

@@ -39,7 +39,7 @@ radix m n s a b p q =
     (λ o h. ap (λ k. nat_cmp (m * s + a) (k * s + b)) (sym h) ∙ same_first m s a b ∙ ap (λ r. ordering_then r (nat_cmp a b)) (sym o))
     (λ o h. nat_cmp-gt (m * s + a) (n * s + b) (first_less n m s b a q h) ∙ ap (λ r. ordering_then r (nat_cmp a b)) (sym o))
 
-then_nothing : (p : Ordering) → p ≡ ordering_then p Equal
+pub then_nothing : (p : Ordering) → p ≡ ordering_then p Equal
 then_nothing Less = refl
 then_nothing Equal = refl
 then_nothing Greater = refl

@@ -136,7 +136,7 @@ code_absent texts x i part (suc k) p =
 
 -- ---- a dimension's codes
 
-code_here : (segment : Segment) (place row : ℕ) (ts : List (List ℕ)) (codes : List ℕ) → AreCodes ts (column place segment.rows) codes → row < length segment.rows → (row < length codes) × (value_at ts (get_or codes row 0) ≡ slice_index_or (row_at segment row).dimensions place None) × (get_or codes row 0 ≤ length ts)
+pub code_here : (segment : Segment) (place row : ℕ) (ts : List (List ℕ)) (codes : List ℕ) → AreCodes ts (column place segment.rows) codes → row < length segment.rows → (row < length codes) × (value_at ts (get_or codes row 0) ≡ slice_index_or (row_at segment row).dimensions place None) × (get_or codes row 0 ≤ length ts)
 code_here segment place row ts codes are h =
     let wide : length codes ≡ length segment.rows = sym (length-map codes (value_at ts)) ∙ ap length are.stand ∙ length-map segment.rows (λ (r : Row). slice_index_or r.dimensions place None) in
     let inside : row < length codes = omega (arith, h, wide) in

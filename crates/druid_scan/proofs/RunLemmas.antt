@@ -84,11 +84,19 @@ skip_to scan interval i m h k none =
     ap (counted_upto scan.query scan.segment interval) e
     ∙ upto_skip scan interval i (m - i) (omega (arith, h, k)) (λ row low high. none row low (omega (arith, high, h)))
 
+pub nothing_before : (scan : Scan) (interval : Extent) (start end : ℕ) → StandIn scan interval start end → start ≤ length scan.segment.rows → counted_upto scan.query scan.segment interval start ≡ []
+nothing_before scan interval start end all h =
+    skip_to scan interval 0 start (omega arith) h (λ row low high. outside scan interval start end row all (omega (arith, high, h)) (inl high))
+
+pub whole_upto : (scan : Scan) (interval : Extent) (start end : ℕ) → StandIn scan interval start end → end ≤ length scan.segment.rows → counted_by scan.query scan.segment interval ≡ counted_upto scan.query scan.segment interval end
+whole_upto scan interval start end all h =
+    ap (λ rows. map (tells scan.query scan.segment.fields) (filter (is_asked scan.query interval scan.segment.fields) rows)) (sym (take_all (length scan.segment.rows) scan.segment.rows (omega arith)))
+    ∙ skip_to scan interval end (length scan.segment.rows) h (omega arith) (λ row low high. outside scan interval start end row all high (inr low))
+
 -- before the first place there is nothing
 pub upto_start : (scan : Scan) (interval : Extent) (start end : ℕ) (groups : List Group) → StandIn scan interval start end → start ≤ length scan.segment.rows → groups ≡ [] → AreUpto scan interval start groups
 upto_start scan interval start end groups all h none =
-    let e : counted_upto scan.query scan.segment interval start ≡ [] =
-    skip_to scan interval 0 start (omega arith) h (λ row low high. outside scan interval start end row all (omega (arith, high, h)) (inl high)) in
+    let e = nothing_before scan interval start end all h in
     let P : List Group → Type 0 = λ rows. AreCounted scan.query rows groups in
     let Q : List Group → Type 0 = λ gs. AreCounted scan.query [] gs in
     subst P (sym e) (subst Q (sym none) (record {
@@ -100,10 +108,7 @@ upto_start scan interval start end groups all h none =
 -- and after the last nothing more
 pub upto_end : (scan : Scan) (interval : Extent) (start end at : ℕ) (groups : List Group) → StandIn scan interval start end → at ≡ end → end ≤ length scan.segment.rows → AreUpto scan interval at groups → AreCounted scan.query (counted_by scan.query scan.segment interval) groups
 upto_end scan interval start end at groups all last h upto =
-    let whole : counted_by scan.query scan.segment interval ≡ counted_upto scan.query scan.segment interval (length scan.segment.rows) =
-    ap (λ rows. map (tells scan.query scan.segment.fields) (filter (is_asked scan.query interval scan.segment.fields) rows)) (sym (take_all (length scan.segment.rows) scan.segment.rows (omega arith))) in
-    let e : counted_by scan.query scan.segment interval ≡ counted_upto scan.query scan.segment interval end =
-    whole ∙ skip_to scan interval end (length scan.segment.rows) h (omega arith) (λ row low high. outside scan interval start end row all high (inr low)) in
+    let e = whole_upto scan interval start end all h in
     let P : List Group → Type 0 = λ rows. AreCounted scan.query rows groups in
     let Q : ℕ → Type 0 = λ i. AreUpto scan interval i groups in
     subst P (sym e) (subst Q last upto)

@@ -1,6 +1,7 @@
 -- Groups of one bucket in an array, each at the number that the codes of its values make. Only proofs and private functions use
 -- this: what it means is in Groups.
-use Rattle.std.specs.Prelude.{◌≡◌, ℕ, ◌+◌, ◌*◌, ◌<◌, ℤ, pos, List, [], ◌∷◌, length, slice_index_or, Option, Some, None, IfSome, ⊤}
+use Rattle.std.specs.Prelude.{◌≡◌, ℕ, ◌+◌, ◌*◌, ◌<◌, ℤ, pos, List, [], ◌∷◌, length, slice_index_or, Option, Some, None, IfSome, Vec, ⊤}
+use Rattle.std.specs.Global.{Global}
 use Rattle.std.specs.Ordering.{nat_cmp}
 use Rattle.std.specs.List.Sorted.{IsStrictlySortedBy}
 use Rattle.std.specs.Map.{keys_of, lookup, set_value}
@@ -17,6 +18,11 @@ use Rattle.druid_scan.specs.declared.cells.Numbers.TheVariants as numbers
 pub record Column : Type 0 where
   pub size : ℕ
   pub codes : Option (List ℕ)
+
+-- the code that stands for one: by a table, where there is one
+abbrev pub look : Option (Vec ℕ Global) → ℕ → ℕ
+look None code = code
+look (Some table) code = slice_index_or table.items code 0
 
 abbrev pub code_in : Option (List ℕ) → ℕ → ℕ
 code_in None row = 0

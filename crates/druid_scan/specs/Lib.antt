@@ -1,9 +1,11 @@
 -- what public contracts rest on
 pub mod Rows
 pub mod Once
+pub mod Told
 -- words of private contracts
 pub mod Places
 pub mod Entries
 pub mod CodeFilters
 pub mod Scans
 pub mod Cells
+pub mod Slices

@@ -70,7 +70,7 @@ pub(crate) fn numbers_at(
 }
 
 // Joins a row's numbers to those that are there.
-fn join_row(
+pub(crate) fn join_row(
     kinds: &[AggregatorKind],
     columns: &[Numbers<'_>],
     row: usize,
@@ -108,7 +108,7 @@ impl Cell {
 }
 
 // No groups.
-pub(crate) fn empty_cells(alloc: Global, room: usize) -> Result<Vec<Option<Cell>>, AllocError>
+pub(crate) fn empty_cells<T: Drop>(alloc: Global, room: usize) -> Result<Vec<Option<T>>, AllocError>
     ensures { IfOk result (λ cells. cells.items ≡ replicate room None) }
 {
     let mut cells = Vec::with_capacity(alloc, room)?;

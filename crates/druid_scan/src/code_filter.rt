@@ -79,7 +79,7 @@ fn marks_of(
     Ok(marks)
 }
 
-fn dimension_of(segment: &Segment, name: &str) -> Option<usize>
+pub(crate) fn dimension_of(segment: &Segment, name: &str) -> Option<usize>
     ensures place { result ≡ place_in segment.now.fields.dimensions name.now }
     ensures inside { IfSome result (λ place. place < length segment.now.fields.dimensions) }
 {

@@ -8,7 +8,9 @@ ghost use Rattle.std.specs.List.{flat_map};
 ghost use Rattle.druid_partial.specs.Partials.{bucket_of, earliest, kinds_of, IsPartialFor};
 ghost use Rattle.druid_scan.specs.Rows.{is_asked, counted_by};
 ghost use Rattle.druid_scan.specs.Entries.{groups_of};
-ghost use Rattle.druid_scan.specs.Cells.{room_from};
+ghost use Rattle.druid_scan.specs.Cells.{room_from, AreColumns};
+ghost use Rattle.druid_scan.specs.Places.{places_of};
+ghost use Rattle.druid_scan.specs.Slices.{texts_in, AreCoded, IsRising, IsOver, Adds, Texts};
 ghost use Rattle.druid_scan.specs.Scans.{counted_at, bucket_at, groups_in, groups_by, IsKept, IsJoined, IsJoinedBy, AreEntries, AreKept, AreCounted, AreUpto, AreCells, ComeBefore, HaveBucket, BucketsRise};
 
 use crate::cells::{Cell, Numbers, Sparse, add_row, empty_cells, enter_row, numbers_at};
@@ -17,6 +19,8 @@ use crate::column::{Column, cell_of, room_of};
 use crate::group_map::{GroupMap, add};
 use crate::key::KeyRef;
 use crate::located::{columns_of, numbers_of, places_of, sources_of, texts_at, values_at};
+use crate::open_group::OpenGroup;
+use crate::texts::coded_columns;
 use druid_partial::{Group, Partial, earliest, kinds_of, merge};
 use druid_query::{AggregatorKind, Query};
 use druid_rows::Segment;
@@ -27,7 +31,7 @@ use std::marker::Model;
 
 // A query over a segment. The names of the query are looked up once, and so are the columns of the segment.
 #[derive(Drop)]
-struct Scan<'a> {
+pub(crate) struct Scan<'a> {
     query: &'a Query,
     segment: &'a Segment,
     times: &'a [Instant],
@@ -71,14 +75,21 @@ fn time_at(times: &[Instant], row: usize) -> Instant
 }
 
 impl<'a> Scan<'a> {
-    fn new(alloc: Global, query: &'a Query, segment: &'a Segment) -> Result<Scan<'a>, AllocError>
+    // The scan with these columns.
+    fn with(
+        alloc: Global,
+        query: &'a Query,
+        segment: &'a Segment,
+        places: Vec<Option<usize>>,
+        columns: Vec<Column<'a>>,
+    ) -> Result<Scan<'a>, AllocError>
+        requires places { places.items ≡ places_of query.now segment.now.fields }
+        requires columns { AreColumns segment.now (places_of query.now segment.now.fields) columns.items }
         ensures query { IfOk result (λ scan. scan.query ≡ query.now) }
         ensures segment { IfOk result (λ scan. scan.segment ≡ segment.now) }
+        ensures columns { IfOk result (λ scan. scan.columns ≡ columns.entry.items) }
     {
-        let schema = segment.schema();
-        let places = places_of(alloc, query, schema)?;
-        let columns = columns_of(alloc, segment, &places)?;
-        let sources = sources_of(alloc, query, schema)?;
+        let sources = sources_of(alloc, query, segment.schema())?;
         let numbers = numbers_of(alloc, segment, &sources)?;
         let kinds = kinds_of(alloc, query)?;
         let code_filter = filter_of(alloc, query, segment)?;
@@ -93,6 +104,37 @@ impl<'a> Scan<'a> {
             kinds,
             code_filter,
         })
+    }
+
+    fn new(alloc: Global, query: &'a Query, segment: &'a Segment) -> Result<Scan<'a>, AllocError>
+        ensures query { IfOk result (λ scan. scan.query ≡ query.now) }
+        ensures segment { IfOk result (λ scan. scan.segment ≡ segment.now) }
+    {
+        let places = places_of(alloc, query, segment.schema())?;
+        let columns = columns_of(alloc, segment, &places)?;
+        Scan::with(alloc, query, segment, places, columns)
+    }
+
+    // The scan by codes of these texts of the query's dimensions. None where the segment has another text.
+    pub(crate) fn over(
+        alloc: Global,
+        query: &'a Query,
+        segment: &'a Segment,
+        lists: &[Vec<&str>],
+    ) -> Result<Option<Scan<'a>>, AllocError>
+        requires long { length lists.now ≡ length query.now.dimensions }
+        requires rising { All IsRising (texts_in lists.now) }
+        ensures query { IfOk result (λ found. IfSome found (λ scan. scan.query ≡ query.now)) }
+        ensures segment { IfOk result (λ found. IfSome found (λ scan. scan.segment ≡ segment.now)) }
+        ensures coded { IfOk result (λ found. IfSome found (λ scan.
+            AreCoded segment.now (texts_in lists.now) (places_of query.now segment.now.fields) scan.columns)) }
+    {
+        let places = places_of(alloc, query, segment.schema())?;
+        let Some(columns) = coded_columns(alloc, segment, lists, &places)? else {
+            return Ok(None);
+        };
+        let scan = Scan::with(alloc, query, segment, places, columns)?;
+        Ok(Some(scan))
     }
 
     fn time(&self, row: usize) -> Instant
@@ -420,6 +462,78 @@ impl<'a> Scan<'a> {
         self.add_entries(alloc, cells, groups)
     }
 
+    // The group of a row.
+    fn open(&self, alloc: Global, row: usize) -> Result<OpenGroup, AllocError>
+        requires { row < length self.now.segment.rows }
+        ensures { IfOk result (λ group. group ≡ counted_at self.now row) }
+    {
+        let values = texts_at(alloc, self.segment, row, &self.places)?;
+        let numbers = self.numbers(alloc, row)?;
+        Ok(OpenGroup::new(self.bucket(row), values, numbers))
+    }
+
+    // Joins a row to the group of its cell, among those of several segments.
+    fn put_open(
+        &self,
+        alloc: Global,
+        row: usize,
+        cells: &mut [Option<OpenGroup>],
+    ) -> Result<(), AllocError>
+        requires row { row < length self.now.segment.rows }
+        requires room { length cells.now ≡ room_from self.now.columns 1 }
+        requires small { room_from self.now.columns 1 < 2 ^ 64 }
+        ensures { OnOk result ((texts : Texts) → IsOver texts self.now
+            → Adds self.now.query texts (counted_at self.now row ∷ []) cells.old cells.new) }
+    {
+        let cell = cell_of(&self.columns, row);
+        if let Some(group) = &mut cells[cell] {
+            group.join(&self.kinds, &self.numbers, row);
+            return Ok(());
+        }
+        let group = self.open(alloc, row)?;
+        cells[cell] = Some(group);
+        Ok(())
+    }
+
+    // Adds the rows that lie in an interval.
+    fn add_piece(
+        &self,
+        alloc: Global,
+        interval: Interval,
+        cells: &mut [Option<OpenGroup>],
+    ) -> Result<(), AllocError>
+        requires room { length cells.now ≡ room_from self.now.columns 1 }
+        requires small { room_from self.now.columns 1 < 2 ^ 64 }
+        ensures { OnOk result ((texts : Texts) → IsOver texts self.now
+            → Adds self.now.query texts (counted_by self.now.query self.now.segment interval) cells.old cells.new) }
+    {
+        let (start, end) = self.segment.places_in(interval);
+        for row in start..end {
+            if self.asks(interval, row) {
+                self.put_open(alloc, row, cells)?;
+            }
+        }
+        Ok(())
+    }
+
+    // Adds those that lie in these intervals.
+    pub(crate) fn add_pieces(
+        &self,
+        alloc: Global,
+        pieces: &[Interval],
+        cells: &mut [Option<OpenGroup>],
+    ) -> Result<(), AllocError>
+        requires room { length cells.now ≡ room_from self.now.columns 1 }
+        requires small { room_from self.now.columns 1 < 2 ^ 64 }
+        ensures { OnOk result ((texts : Texts) → IsOver texts self.now
+            → Adds self.now.query texts (flat_map (counted_by self.now.query self.now.segment) pieces.now) cells.old cells.new) }
+    {
+        for interval in pieces {
+            self.add_piece(alloc, *interval, cells)?;
+        }
+        Ok(())
+    }
+
     // Adds the groups of the rows of one bucket from one place to another, which come after those that are there.
     fn add_run(
         &self,
@@ -519,6 +633,10 @@ fn add_found(
 /// instants rise, or there is one bucket, a row of a group that is there allocates nothing and costs one step, or,
 /// where the dimensions have many values beside the rows of its bucket, the logarithm of the number of groups; else
 /// it costs that and a key.
+///
+/// # Errors
+///
+/// Out of memory.
 pub fn partial_of(
     alloc: Global,
     query: &Query,
@@ -534,6 +652,10 @@ pub fn partial_of(
 
 /// The same of several intervals, each of them for itself: a row that lies in two of them counts twice. The names of the query
 /// and the values of its filter are looked up once for all.
+///
+/// # Errors
+///
+/// Out of memory.
 pub fn partial_over(
     alloc: Global,
     query: &Query,

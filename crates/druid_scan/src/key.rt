@@ -1,3 +1,4 @@
+//! Where rows stand in a result.
 ghost use Rattle.std.specs.Prelude.{◌≡◌, Some, refl, map, IfOk, option_map};
 ghost use Rattle.std.specs.Ordering.{eq_by_cmp};
 ghost use Rattle.druid_rows.specs.Rows.{nullable_texts_of};

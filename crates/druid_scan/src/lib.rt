@@ -9,6 +9,11 @@ mod group_map;
 mod key;
 mod laws;
 mod located;
+mod open_group;
+mod slices;
+mod texts;
 
 pub use counting::{partial_of, partial_over};
 pub use laws::rows_are_counted_once;
+pub use slices::partial_of_slices;
+pub use texts::Slice;

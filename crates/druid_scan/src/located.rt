@@ -1,4 +1,5 @@
-//! Where the fields that a query names stand in a segment.
+//! Where the fields that a query names stand in a segment. Of a name that stands twice in a schema,
+//! which no segment has, the first place counts.
 ghost use Rattle.std.specs.Prelude.{◌≡◌, ◌<◌, length, map, All, IfOk, option_map, option_and_then};
 ghost use Rattle.druid_rows.specs.Rows.{texts_of, nullable_texts_of};
 ghost use Rattle.druid_rows.specs.Segment.{row_at};

@@ -1,23 +1,18 @@
 -- The exchanges of a round are asked as they should be, also where it is not known what they gave.
-use Rattle.std.proofs.Common.{◌≡◌, ◌∙◌, ◌⊎◌, inl, inr, ℕ, zero, suc, ◌+◌, ◌<◌, ◌≤◌, List, [], ◌∷◌, ◌++◌, length, map, get_or, Any, IsSomeAnd, Contains, Option, Some, None, Result, Ok, Err, OnErr, Vec, option_map, append_assoc, refl, sym, ap, subst, arith}
+use Rattle.std.proofs.Common.{◌≡◌, ◌∙◌, ◌⊎◌, inl, inr, ℕ, zero, suc, ◌+◌, ◌<◌, ◌≤◌, List, [], ◌∷◌, ◌++◌, length, map, get_or, Any, IsSomeAnd, Contains, Option, Some, None, option_map, append_assoc, refl, sym, ap, subst, arith}
 use Rattle.std.specs.List.{slice_get, range_with_len}
-use Rattle.std.proofs.lemmas.List.{append-nil, length-map}
+use Rattle.std.proofs.lemmas.List.{append-nil}
 use Rattle.std.proofs.lemmas.List.Elements.{Contains-append_cases}
 use Rattle.druid_base.proofs.MemberLemmas.{Contains-cons, Contains-later, Contains-nil}
 use Rattle.druid_query.specs.Asked.{Asked}
 use Rattle.druid_query.specs.Query.{Query}
-use Rattle.druid_query.specs.SubQuery.{SubQuery}
-use Rattle.druid_link.specs.Links.{Came, came_of}
-use Rattle.druid_message.specs.declared.fault.WireFault.{WireFault}
-use Rattle.std.specs.declared.alloc.Global.{Global}
-use Rattle.druid_scatter.specs.declared.fault.GatherFault.{GatherFault}
+use Rattle.druid_link.specs.Links.{Came}
 use Rattle.druid_scatter.specs.Plan.{Pair}
 use Rattle.druid_scatter.specs.Gathered.{Exchange, Gives, Asks, AreMade, AreAsked}
 use Rattle.druid_scatter.specs.Rounds.{AnswersOne, AreAnswered}
 use Rattle.druid_scatter.specs.Waiting.{Waiting, State, AreOrdered, Holds, IsState, AsksAt, AsksOn, MayLackMemory, wanted_of, sub_if, sub_request, made_from}
-use Rattle.druid_scatter.proofs.RoundLemmas.{mapped_at}
 use Rattle.druid_scatter.proofs.StepLemmas.{are_asked, step, skip, wanted_by, get_contains}
-use Rattle.druid_scatter.proofs.StateLemmas.{wanted_sorted, made_by, made_same}
+use Rattle.druid_scatter.proofs.StateLemmas.{wanted_sorted, made_same}
 
 -- nothing was asked
 pub no_asks : (order : List ℕ → List ℕ) (query : Query) (pairs : List Pair) → AreAsked order query pairs []
@@ -63,7 +58,7 @@ fits step query wanted (suc n) k (x ∷ old) (None ∷ came) (y ∷ new) h = (fi
 fits step query wanted (suc n) k (x ∷ old) (Some c ∷ came) (y ∷ new) h = (fits_some step query (wanted k) c x y h.0, fits step query wanted n (k + 1) old came new h.1)
 
 -- an exchange of a round asked its node for what is wanted of it
-made_in : (wanted : ℕ → List Asked) (k : ℕ) (came : List (Option Came)) (e : Exchange) → Contains (made_from wanted k came) e → e.asked ≡ wanted e.node
+pub made_in : (wanted : ℕ → List Asked) (k : ℕ) (came : List (Option Came)) (e : Exchange) → Contains (made_from wanted k came) e → e.asked ≡ wanted e.node
 made_in wanted k [] e c = absurd (Contains-nil e c)
 made_in wanted k (None ∷ more) e c = made_in wanted (k + 1) more e c
 made_in wanted k (Some x ∷ more) e c = elim (Contains-cons (record { node = k; asked = wanted k; came = x }) (made_from wanted (k + 1) more) e c) [
@@ -114,7 +109,7 @@ quiet gives order pairs waits left round node (Some c ∷ more) exchanges o h fi
     (quiet gives order pairs waits left round (node + 1) more (exchanges ++ e ∷ []) o next fit.1 (λ x a later. none x a (Contains-later e rest x later))))
 
 -- what those exchanges gave that were made before
-abbrev GaveBefore : Query → List Exchange → Exchange → Asked → Type 0
+abbrev pub GaveBefore : Query → List Exchange → Exchange → Asked → Type 0
 GaveBefore query exchanges e a = Contains exchanges e × Gives query e a
 
 held_before : (query : Query) (waits left : List Waiting) (round node : ℕ) (exchanges : List Exchange) → Holds (Gives query) waits left round node exchanges → Holds (GaveBefore query exchanges) waits left round node exchanges
@@ -134,17 +129,17 @@ held_before query waits left round node exchanges h = record {
 -- a round in any state, whatever came before
 module _ (query : Query) (round : ℕ) (old : State) (came : List (Option Came)) (fit : Fits (wanted_of round old.waiting) 0 came)
     (order : List ℕ → List ℕ) (pairs : List Pair) (waits : List Waiting) (exchanges : List Exchange) (o : AreOrdered order pairs waits) (s : IsState query waits old round 0 exchanges) where
-  abbrev left : List Waiting
+  abbrev pub left : List Waiting
   left = old.waiting
 
-  abbrev more : List Exchange
+  abbrev pub more : List Exchange
   more = made_from (wanted_of round left) 0 came
 
-  abbrev gives : Exchange → Asked → Type 0
+  abbrev pub gives : Exchange → Asked → Type 0
   gives = GaveBefore query exchanges
 
   -- what an exchange of the round asks for has its turn now
-  now : (e : Exchange) (w : Waiting) → Contains more e → Contains waits w → Contains e.asked w.asked → slice_get w.order round ≡ Some e.node
+  pub now : (e : Exchange) (w : Waiting) → Contains more e → Contains waits w → Contains e.asked w.asked → slice_get w.order round ≡ Some e.node
   now e w in_it in_w asks =
       let v = wanted_by round e.node left w.asked (subst (λ (xs : List Asked). Contains xs w.asked) (made_in (wanted_of round left) 0 came e in_it) asks) in
       let same : v.0 ≡ w = o.own v.0 w ((s.holds.left_are v.0).0 v.1).0 in_w v.2 in
@@ -169,7 +164,7 @@ module _ (query : Query) (round : ℕ) (old : State) (came : List (Option Came))
       let earlier = not_now e v.0 round g.0 in_w (subst (Contains e.asked) (sym v.2) g.1.0, v.3) in
       omega (arith, earlier)
 
-  all : Holds gives waits left round (0 + length came) (exchanges ++ more)
+  pub all : Holds gives waits left round (0 + length came) (exchanges ++ more)
   all = quiet gives order pairs waits left round 0 came exchanges o (held_before query waits left round 0 exchanges s.holds) fit apart
 
   -- an exchange is of this round or of one before
@@ -179,7 +174,7 @@ module _ (query : Query) (round : ℕ) (old : State) (came : List (Option Came))
     | inr new ↦ let same = (o.each w in_w).once r round e.node asks.1 (now e w new in_w asks.0) in omega arith
   ]
 
-  turns : (i : ℕ) (e : Exchange) (w : Waiting) (r t n : ℕ) → slice_get (exchanges ++ more) i ≡ Some e → Contains waits w → AsksAt e w r → t < r → slice_get w.order t ≡ Some n
+  pub turns : (i : ℕ) (e : Exchange) (w : Waiting) (r t n : ℕ) → slice_get (exchanges ++ more) i ≡ Some e → Contains waits w → AsksAt e w r → t < r → slice_get w.order t ≡ Some n
       → (j : ℕ) × (d : Exchange) × (j < i) × (slice_get (exchanges ++ more) j ≡ Some d) × Asks d w.asked n × (Gives query d w.asked → ⊥)
   turns i e w r t n at in_w asks less there =
       let d = all.in_turn i e w r t n at in_w asks less there in
@@ -217,18 +212,3 @@ unsent step query round old links new same = (
       (are_asked query (Gives query) order pairs waits old.waiting round 0 exchanges o s.holds (record { each = s.holds.in_turn })),
   inl refl,
 )
-
-pub round_err : {L : Type 0} (step : L → List ℕ → Came → L → Type 0) (query : Query) (round : ℕ) (old new : List L) (state : State) (r : Result State GatherFault) (subs there : List (Option SubQuery)) (came : List (Option Came))
-    → there ≡ subs → subs ≡ map (λ node. sub_if query (wanted_of round state.waiting node)) (range_with_len 0 (length old)) → AreAnswered step old (map (option_map sub_request) there) came new
-    → OnErr r (Any (λ one. IsSomeAnd one MayLackMemory) came)
-    → OnErr r ((more : List Exchange) × AreMade step query more old new × AsksOn query round state more × ((more ≡ []) ⊎ Any (λ e. MayLackMemory e.came) more))
-round_err step query round old new state (Ok x) subs there came same e answered lacks = tt
-round_err step query round old new state (Err f) subs there came same e answered lacks =
-    let wanted = wanted_of round state.waiting in
-    let asked = subst (λ (ss : List (Option SubQuery)). AreAnswered step old (map (option_map sub_request) ss) came new) (same ∙ e) answered in
-    (made_from wanted 0 came, made_by step query wanted old new subs there came same e answered, asks_on query round state came (fits step query wanted (length old) 0 old came new asked), inr (made_any MayLackMemory wanted 0 came lacks))
-
-pub lacking_at : (came : List (Option (Result (Vec ℕ Global) WireFault))) (k : ℕ) (x : Option (Result (Vec ℕ Global) WireFault)) → k < length came → x ≡ get_or came k x → IsSomeAnd (option_map came_of x) MayLackMemory
-    → Any (λ one. IsSomeAnd one MayLackMemory) (map (option_map came_of) came)
-lacking_at came k x within at lacks =
-    (k, option_map came_of x, omega (arith, length-map came (option_map came_of), within), sym (mapped_at (option_map came_of) came k x within at), lacks)

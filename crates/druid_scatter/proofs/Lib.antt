@@ -9,4 +9,7 @@ pub mod GatherLemmas
 pub mod LawLemmas
 pub mod ExactLemmas
 pub mod AskedLemmas
+pub mod RequestLemmas
+pub mod ReadLemmas
+pub mod SettledLemmas
 pub mod AilingLemmas

@@ -1,12 +1,10 @@
 -- The exchanges of rounds lead each link from one state to another.
-use Rattle.std.proofs.Common.{◌≡◌, ◌∙◌, inl, inr, ℕ, zero, suc, ◌+◌, ◌<◌, List, [], ◌∷◌, ◌++◌, length, map, take, get_or, is_some, Option, Some, None, option_map, refl, sym, ap, subst, arith}
-use Rattle.std.specs.List.{slice_get, range_with_len, AllZip}
-use Rattle.std.proofs.lemmas.List.{length-take-le, take_more}
+use Rattle.std.proofs.Common.{◌≡◌, ◌∙◌, inl, inr, ℕ, zero, suc, ◌+◌, ◌<◌, List, [], ◌∷◌, ◌++◌, length, map, get_or, Option, Some, None, option_map, refl, sym, ap, subst, arith}
+use Rattle.std.specs.List.{slice_get, range_with_len}
 use Rattle.std.proofs.lemmas.List.FromFn.{map-range_with_len_more}
 use Rattle.std.proofs.lemmas.Option.{same_Some, slice_get_within, slice_get-get_or}
 use Rattle.druid_query.specs.Asked.{Asked}
 use Rattle.druid_query.specs.Query.{Query}
-use Rattle.druid_query.specs.SubQuery.{SubQuery}
 use Rattle.druid_link.specs.Links.{Came}
 use Rattle.druid_wire.specs.Written.{request_text}
 use Rattle.druid_scatter.specs.Gathered.{Exchange, Leads, AreMade, request_for}
@@ -100,40 +98,3 @@ made_append step query es fs old mid new h k = record {
       let at : slice_get mid node ≡ Some b = slice_get-get_or mid node a below in
       leads_append step query node es fs a b c (h.each node a b e at) (k.each node b c at f);
 }
-
--- ---- the exchanges of a round, one after another
-
-pub made-append : (wanted : ℕ → List Asked) (k : ℕ) (xs ys : List (Option Came)) → made_from wanted k (xs ++ ys) ≡ made_from wanted k xs ++ made_from wanted (k + length xs) ys
-made-append wanted k [] ys = let e : k ≡ k + 0 = omega arith in ap (λ n. made_from wanted n ys) e
-made-append wanted k (None ∷ xs) ys =
-    let e : (k + 1) + length xs ≡ k + suc (length xs) = omega arith in
-    made-append wanted (k + 1) xs ys ∙ ap (λ n. made_from wanted (k + 1) xs ++ made_from wanted n ys) e
-made-append wanted k (Some c ∷ xs) ys =
-    let e : (k + 1) + length xs ≡ k + suc (length xs) = omega arith in
-    ap (λ es. record { node = k; asked = wanted k; came = c } ∷ es) (made-append wanted (k + 1) xs ys ∙ ap (λ n. made_from wanted (k + 1) xs ++ made_from wanted n ys) e)
-
--- one place more of what came
-pub made_more : (wanted : ℕ → List Asked) (came : List (Option Came)) (k : ℕ) (x : Option Came) → k < length came → x ≡ get_or came k x
-    → made_from wanted 0 (take (k + 1) came) ≡ made_from wanted 0 (take k came) ++ made_from wanted k (x ∷ [])
-made_more wanted came k x within at =
-    let long : 0 + length (take k came) ≡ k = omega (arith, length-take-le k came (omega arith)) in
-    ap (made_from wanted 0) (take_more came k x within ∙ ap (λ (y : Option Came). take k came ++ y ∷ []) (sym at)) ∙ made-append wanted 0 (take k came) (x ∷ [])
-    ∙ ap (λ (n : ℕ). made_from wanted 0 (take k came) ++ made_from wanted n (x ∷ [])) long
-
--- ---- who was asked, and who answered
-
-pub matched : {L : Type 0} (step : L → List ℕ → Came → L → Type 0) (old : List L) (subs : List (Option SubQuery)) (came : List (Option Came)) (new : List L) → AreAnswered step old (map (option_map sub_request) subs) came new
-    → AllZip (λ s c. is_some s ≡ is_some c) subs came
-matched step [] [] [] [] h = tt
-matched step [] [] [] (b ∷ new) h = absurd h
-matched step [] [] (c ∷ came) new h = absurd h
-matched step [] (s ∷ subs) came new h = absurd h
-matched step (a ∷ old) [] came new h = absurd h
-matched step (a ∷ old) (s ∷ subs) [] new h = absurd h
-matched step (a ∷ old) (s ∷ subs) (c ∷ came) [] h = absurd h
-matched step (a ∷ old) (s ∷ subs) (c ∷ came) (b ∷ new) h = (one s c h.0, matched step old subs came new h.1)
-  where
-    one : (s : Option SubQuery) (c : Option Came) → AnswersOne step a (option_map sub_request s) c b → is_some s ≡ is_some c
-    one None c h = sym (ap is_some h.0)
-    one (Some s) None h = absurd h
-    one (Some s) (Some c) h = refl

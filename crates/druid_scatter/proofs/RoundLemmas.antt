@@ -1,6 +1,5 @@
 -- Exchanges over links, made in halves.
-use Rattle.std.proofs.Common.{◌≡◌, ◌∙◌, ℕ, List, [], ◌∷◌, ◌++◌, length, map, get_or, Option, ◌<◌, sym, ap}
-use Rattle.std.proofs.lemmas.List.{get_or-map, map-append}
+use Rattle.std.proofs.Common.{ℕ, List, [], ◌∷◌, ◌++◌, Option}
 use Rattle.druid_link.specs.Links.{Came}
 use Rattle.druid_scatter.specs.Rounds.{AreAnswered}
 
@@ -17,17 +16,3 @@ answered_both step [] (r ∷ requests) answers new o q m n h k = absurd h
 answered_both step (x ∷ old) [] answers new o q m n h k = absurd h
 answered_both step (x ∷ old) (r ∷ requests) [] new o q m n h k = absurd h
 answered_both step (x ∷ old) (r ∷ requests) (a ∷ answers) [] o q m n h k = absurd h
-
--- the same of lists that were split, and of answers that were written half by half
-pub answered_halves : {L X Y : Type 0} (step : L → List ℕ → Came → L → Type 0) (f : X → Option (List ℕ)) (g : Y → Option Came) (old : List L) (requests : List X)
-    (front back : List L) (asked asked' : List X) (answers answers' : List Y) (new new' : List L)
-    → old ≡ front ++ back → requests ≡ asked ++ asked'
-    → AreAnswered step front (map f asked) (map g answers) new → AreAnswered step back (map f asked') (map g answers') new'
-    → AreAnswered step old (map f requests) (map g (answers ++ answers')) (new ++ new')
-answered_halves step f g old requests front back asked asked' answers answers' new new' of_links of_requests h k =
-    rw (of_links, of_requests, map-append f asked asked', map-append g answers answers')
-    (answered_both step front (map f asked) (map g answers) new back (map f asked') (map g answers') new' h k)
-
--- what is read of a list at a place is there after a map too
-pub mapped_at : {X Y : Type 0} (f : X → Y) (xs : List X) (i : ℕ) (x : X) → i < length xs → x ≡ get_or xs i x → f x ≡ get_or (map f xs) i (f x)
-mapped_at f xs i x h at = ap f at ∙ sym (get_or-map f xs i x (f x) h)

@@ -1,5 +1,5 @@
 -- What an answer tells is one, and what is no answer tells nothing.
-use Rattle.std.proofs.Common.{◌≡◌, ◌∙◌, inr, ℕ, List, Option, Some, None, IsSomeAnd, option_map, Ok, Err, Result, true, not, eqb, refl, sym, ap, subst}
+use Rattle.std.proofs.Common.{◌≡◌, ◌∙◌, inr, ℕ, List, Option, Some, None, Ok, Err, Result, true, not, eqb, refl, sym, ap, subst}
 use Rattle.std.specs.Option.{IfNone}
 use Rattle.std.specs.Result.{IfOk, OnErr}
 use Rattle.std.proofs.lemmas.Bool.{false≢true, eq-eqb}
@@ -21,7 +21,7 @@ use Rattle.druid_wire.specs.Messages.{IsResponse}
 use Rattle.druid_wire.proofs.OnceLemmas.{one_response}
 use Rattle.druid_scatter.specs.declared.fault.GatherFault.{GatherFault}
 use Rattle.druid_scatter.specs.Gathered.{Answers, IsLost, Exchange}
-use Rattle.druid_scatter.specs.Waiting.{Tells, TellsNothing, ReadingLacksMemory, LacksMemory, MayLackMemory, exchange_of}
+use Rattle.druid_scatter.specs.Waiting.{Tells, TellsNothing, ReadingLacksMemory, LacksMemory, exchange_of}
 
 -- ---- bytes
 
@@ -101,8 +101,3 @@ lost_of sub bytes there came (Err f) same is none = tt
 pub lacks_of : (sub : SubQuery) (bytes there : List ℕ) (came : Came) (r : Result (Option Answer) GatherFault) → there ≡ bytes → came ≡ Ok bytes → OnErr r (ReadingLacksMemory sub there) → OnErr r (LacksMemory sub came)
 lacks_of sub bytes there came (Ok a) same is lacks = tt
 lacks_of sub bytes there came (Err f) same is lacks = inr (bytes, is, subst (ReadingLacksMemory sub) same lacks)
-
--- an answer is a response, whose body is read
-pub answer_may : {X : Type 0} (f : X → Came) (c : Option X) (came : X) (sub : SubQuery) (node : ℕ) (missing : List Asked) (groups : List Group) → c ≡ Some came
-    → Answers sub.query (exchange_of sub (f came) node) missing groups → IsSomeAnd (option_map f c) MayLackMemory
-answer_may f c came sub node missing groups d a = subst (λ (y : _). IsSomeAnd (option_map f y) MayLackMemory) (sym d) (inr (a.bytes, a.body, a.rest, a.came, a.response))

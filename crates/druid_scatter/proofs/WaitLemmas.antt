@@ -1,18 +1,18 @@
 -- What waits, and what is kept of it.
-use Rattle.std.proofs.Common.{◌≡◌, ◌∙◌, ◌↔◌, ◌⊎◌, inl, inr, ℕ, ◌+◌, ◌<◌, ◌≤◌, Bool, true, false, not, ◌||◌, cond, IsTrue, List, [], ◌∷◌, ◌++◌, length, get_or, take, map, filter, All, Contains, refl, sym, ap, subst, arith}
+use Rattle.std.proofs.Common.{◌≡◌, ◌∙◌, ◌↔◌, ◌⊎◌, inl, inr, ℕ, ◌+◌, ◌<◌, ◌≤◌, Bool, true, false, cond, IsTrue, List, [], ◌∷◌, ◌++◌, length, get_or, take, map, All, Contains, refl, sym, ap, subst, arith}
 use Rattle.std.specs.List.Sorted.{IsPermutation, IsStrictlyIncreasing, IsStrictlySortedBy}
 use Rattle.std.specs.Ordering.{is_eq}
 use Rattle.std.specs.Cmp.{IsTotalOrder, both_tied, first_so, second_so, unsigned_ties, unsigned_Decides}
 use Rattle.std.proofs.lemmas.Bool.{false≢true}
 use Rattle.std.proofs.lemmas.Cmp.{tied_itself, then_total, on_total, nat_cmp_total}
-use Rattle.std.proofs.lemmas.List.{append-nil, take_more, take_all, map_more, map_push}
-use Rattle.std.proofs.lemmas.List.Elements.{filter-append, Contains-get_or, Contains-push, Contains-push_cases, Contains-append_left, All-contains}
+use Rattle.std.proofs.lemmas.List.{take_more, take_all, map_more, map_push}
+use Rattle.std.proofs.lemmas.List.Elements.{Contains-get_or, Contains-push, Contains-push_cases, Contains-append_left, All-contains}
 use Rattle.std.proofs.lemmas.List.Kept.{AllPairs-from_increasing}
 use Rattle.std.proofs.lemmas.Option.{slice_get_within, get_or_from_slice_get}
 use Rattle.druid_base.proofs.MovedLemmas.{StandAlone, alone-permutation}
 use Rattle.druid_query.specs.Asked.{Asked}
 use Rattle.druid_scatter.specs.Plan.{Pair, asked_of, place_cmp}
-use Rattle.druid_scatter.specs.Waiting.{Waiting, StandsOnce, IsOrdered, AreOrdered, Keeps, StandsIn, stays, at_cmp, place_of, has_turn, pieces_of}
+use Rattle.druid_scatter.specs.Waiting.{Waiting, StandsOnce, IsOrdered, AreOrdered, StandsIn, at_cmp, place_of, pieces_of}
 use Rattle.druid_scatter.proofs.StepLemmas.{own_keys, place_cmp-total}
 
 -- ---- orders
@@ -84,28 +84,6 @@ place_step asked k item key p old new within at place e was =
     let more : take (k + 1) asked ≡ take k asked ++ item ∷ [] = take_more asked k item within ∙ ap (λ (x : Asked). take k asked ++ x ∷ []) (sym at) in
     subst (λ (l : List Asked). IsTrue new ↔ StandsIn l p) (sym more)
     (place_more (take k asked) item p (is_eq (at_cmp (place_of item) p)) old new refl (e ∙ ap (λ (q : ℕ × ℕ). cond (is_eq (at_cmp q p)) true old) place) was)
-
-or_test : (a b : Bool) (P : Type 0) → (IsTrue b ↔ P) → IsTrue (not a || b) ↔ (IsTrue a → P)
-or_test true b P h = (λ t u. h.0 t, λ f. h.1 (f refl))
-or_test false b P h = (λ t u. absurd (false≢true u), λ f. refl)
-
--- what the test keeps
-pub keeps : (round node : ℕ) (missing : List Asked) (found : ℕ × ℕ → Bool) (before after : List Waiting) → ((p : ℕ × ℕ) → IsTrue (found p) ↔ StandsIn missing p)
-    → after ≡ filter (stays round node found) before → Keeps round node missing before after
-keeps round node missing found before after means kept = record {
-  test = stays round node found;
-  kept = kept;
-  meaning = λ w. or_test (has_turn round node w) (found (place_of w.asked)) (StandsIn missing (place_of w.asked)) (means (place_of w.asked));
-}
-
--- one piece more is kept, or it is not
-pub kept_more : (test : Waiting → Bool) (done kept new : List Waiting) (x : Waiting) → new ≡ kept ++ x ∷ [] → test x ≡ true → kept ≡ filter test done → new ≡ filter test (done ++ x ∷ [])
-kept_more test done kept new x e passes so_far =
-    e ∙ ap (λ (xs : List Waiting). xs ++ x ∷ []) so_far ∙ ap (λ (b : Bool). filter test done ++ cond b (x ∷ []) []) (sym passes) ∙ sym (filter-append test done (x ∷ []))
-
-pub kept_less : (test : Waiting → Bool) (done kept : List Waiting) (x : Waiting) → test x ≡ false → kept ≡ filter test done → kept ≡ filter test (done ++ x ∷ [])
-kept_less test done kept x fails so_far =
-    so_far ∙ sym (append-nil (filter test done)) ∙ ap (λ (b : Bool). filter test done ++ cond b (x ∷ []) []) (sym fails) ∙ sym (filter-append test done (x ∷ []))
 
 -- a pair more waits
 pub waits_more : (pairs : List Pair) (old new : List Waiting) (k : ℕ) (p : Pair) (w : Waiting) → k < length pairs → p ≡ get_or pairs k p → new ≡ old ++ w ∷ [] → w.asked ≡ p.asked

@@ -1,5 +1,5 @@
 -- Pieces that no answer gave yet, and what a round asks for: only proofs use this.
-use Rattle.std.specs.Prelude.{◌≡◌, ◌==◌, ◌+◌, ◌<◌, ◌⊎◌, ◌↔◌, ℕ, Bool, false, not, ◌||◌, IsTrue, List, [], ◌∷◌, ◌++◌, map, filter, slice_get, Option, Some, None, Ok, Err, Contains}
+use Rattle.std.specs.Prelude.{◌≡◌, ◌==◌, ◌+◌, ◌<◌, ◌⊎◌, ◌↔◌, ℕ, zero, suc, Bool, true, false, IsTrue, List, [], ◌∷◌, ◌++◌, map, filter, slice_get, Option, Some, None, Ok, Err, Result, Contains, Any, IfSome, IsSomeAnd}
 use Rattle.std.specs.declared.cmp.Ordering.{Ordering}
 use Rattle.std.specs.Ordering.{nat_cmp, ordering_then}
 use Rattle.std.specs.List.Sorted.{IsPermutation, IsStrictlySortedBy}
@@ -9,8 +9,8 @@ use Rattle.druid_base.specs.Json.{ReadsAs}
 use Rattle.druid_query.specs.SubQuery.{SubQuery}
 use Rattle.druid_partial_text.specs.Answers.{TellsAnswer, IsAnswerOf}
 use Rattle.druid_partial_text.specs.declared.fault.PartialFault.TheVariants as faults
-use Rattle.druid_partial.specs.Groups.{Group, IsMerge, IsResult}
-use Rattle.druid_partial.specs.Partials.{Partial, kinds_of}
+use Rattle.druid_partial.specs.Groups.{Group, IsResult}
+use Rattle.druid_partial.specs.Partials.{Partial, IsPartialFor, kinds_of}
 use Rattle.druid_link.specs.Links.{Came}
 use Rattle.druid_message.specs.declared.fault.WireFault.TheVariants as wire
 use Rattle.druid_wire.specs.Messages.{IsResponse}
@@ -144,34 +144,77 @@ at_cmp p q = ordering_then (nat_cmp p.0 q.0) (nat_cmp p.1 q.1)
 abbrev pub StandsIn : List Asked → ℕ × ℕ → Type 0
 StandsIn asked p = (a : Asked) × Contains asked a × (place_of a ≡ p)
 
--- the node was not asked for the piece, or it missed it
-abbrev pub stays : ℕ → ℕ → (ℕ × ℕ → Bool) → Waiting → Bool
-stays round node missed w = not (has_turn round node w) || missed (place_of w.asked)
+-- whether a piece at a place is among those that an answer misses
+abbrev pub Found : Type 0
+Found = ℕ × ℕ → Bool
 
--- of what waited it keeps what the node was not asked for, and what it missed
-pub record Keeps (round node : ℕ) (missing : List Asked) (before after : List Waiting) : Type 0 where
-  pub test : Waiting → Bool
-  pub kept : after ≡ filter test before
-  pub meaning : (w : Waiting) → IsTrue (test w) ↔ (IsTrue (has_turn round node w) → StandsIn missing (place_of w.asked))
+-- it tells where these pieces stand
+abbrev pub TellsPlaces : Found → List Asked → Type 0
+TellsPlaces found asked = (p : ℕ × ℕ) → IsTrue (found p) ↔ StandsIn asked p
 
--- the exchange was an answer, which the new state has
-pub record IsTaken (query : Query) (round node : ℕ) (old new : State) (e : Exchange) : Type 0 where
-  pub missing : List Asked
-  pub groups : List Group
-  pub answers : Answers query e missing groups
-  pub kept : Keeps round node missing old.waiting new.waiting
-  pub merged : IsMerge (kinds_of query) old.partial.groups groups new.partial.groups
-  pub itself : IsResult (kinds_of query) groups groups
+-- a piece waits on, of a node that did not answer, or whose answer misses it
+abbrev pub is_missed : Option (Option Found) → ℕ × ℕ → Bool
+is_missed None place = true
+is_missed (Some None) place = true
+is_missed (Some (Some found)) place = found place
 
--- the exchange was an answer, or is lost
-abbrev pub Took : Query → ℕ → ℕ → State → State → Exchange → Type 0
-Took query round node old new e = IsTaken query round node old new e ⊎ (IsLost query e × (new ≡ old))
+-- the same by what the round's answers miss, place by place; of no node too
+abbrev pub stays_at : Option ℕ → List (Option Found) → ℕ × ℕ → Bool
+stays_at None missed place = true
+stays_at (Some node) missed place = is_missed (slice_get missed node) place
 
--- the same, if there was an exchange
-abbrev pub TookIf : ℕ → ℕ → State → State → Option SubQuery → Option Came → Type 0
-TookIf round node old new None came = new ≡ old
-TookIf round node old new (Some sub) None = new ≡ old
-TookIf round node old new (Some sub) (Some came) = Took sub.query round node old new (exchange_of sub came node)
+abbrev pub stays : ℕ → List (Option Found) → Waiting → Bool
+stays round missed w = stays_at (slice_get w.order round) missed (place_of w.asked)
+
+-- one piece more is asked of a node, if it has a place
+abbrev pub pushed : List (List Asked) → ℕ → Asked → List (List Asked)
+pushed [] node a = []
+pushed (asked ∷ more) zero a = (asked ++ a ∷ []) ∷ more
+pushed (asked ∷ more) (suc node) a = asked ∷ pushed more node a
+
+-- of the node whose turn it is, if it is one's
+abbrev pub pushed_at : List (List Asked) → Option ℕ → Asked → List (List Asked)
+pushed_at slices None a = slices
+pushed_at slices (Some node) a = pushed slices node a
+
+-- the subquery is one of the query, if there is one
+abbrev pub OfQuery : Query → Option SubQuery → Type 0
+OfQuery query None = Unit {0}
+OfQuery query (Some sub) = sub.query ≡ query
+
+-- ---- what was read of what came, whoever read it and whenever
+
+-- of a node: where the pieces stand that its answer misses, and what it tells. Nothing, where it was not asked, or what came is lost
+abbrev pub IsRead : Option SubQuery → Option Came → Option Found → List Group → Type 0
+IsRead None None found rows = (found ≡ None) × (rows ≡ [])
+IsRead None (Some came) found rows = ⊥
+IsRead (Some sub) None found rows = ⊥
+IsRead (Some sub) (Some came) None rows = ((node : ℕ) → IsLost sub.query (exchange_of sub came node)) × (rows ≡ [])
+IsRead (Some sub) (Some came) (Some found) rows =
+    (missing : List Asked) × ((node : ℕ) → Answers sub.query (exchange_of sub came node) missing rows) × TellsPlaces found missing
+
+-- of nodes, place by place
+abbrev pub AreRead : List (Option SubQuery) → List (Option Came) → List (Option Found) → List Group → Type 0
+AreRead [] [] [] rows = rows ≡ []
+AreRead (s ∷ subs) (c ∷ came) (f ∷ found) rows = (one back : List Group) × IsRead s c f one × AreRead subs came found back × (rows ≡ one ++ back)
+AreRead _ _ _ rows = ⊥
+
+-- a partial tells what these rows tell; without one there are no rows
+abbrev pub TellsIf : Query → List Group → Option Partial → Type 0
+TellsIf query rows None = rows ≡ []
+TellsIf query rows (Some p) = IsResult (kinds_of query) rows p.groups
+
+-- the partial is what all that was read tells. Where there is one, something came; and where there is none for want of memory, memory may
+-- have run out at one of the answers
+abbrev pub Reads : {F : Type 0} → Query → List (Option SubQuery) → List (Option Came) → List (Option Found) → Result (Option Partial) F → Type 0
+Reads query subs came found (Ok told) =
+    ((rows : List Group) × AreRead subs came found rows × TellsIf query rows told)
+    × IfSome told (λ p. IsPartialFor query p × Any (λ one. IsSomeAnd one MayLackMemory) came)
+Reads query subs came found (Err fault) = Any (λ one. IsSomeAnd one MayLackMemory) came
+
+-- the same of one node
+abbrev pub ReadsOne : {F : Type 0} → Query → Option SubQuery → Option Came → Option Found → Result (Option Partial) F → Type 0
+ReadsOne query sub came found r = Reads query (sub ∷ []) (came ∷ []) (found ∷ []) r
 
 -- the state after these exchanges
 pub record IsState (query : Query) (waits : List Waiting) (state : State) (round node : ℕ) (exchanges : List Exchange) : Type 0 where

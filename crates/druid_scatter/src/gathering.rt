@@ -1,20 +1,18 @@
 //! What was gathered so far.
-ghost use Rattle.std.specs.Prelude.{◌≡◌, ◌⊎◌, List, [], Any, IfOk, OnErr, IfSome, IsSomeAnd, Option, length, map, option_map, is_some};
-ghost use Rattle.std.specs.List.{range_with_len, AllZip};
-ghost use Rattle.druid_query.specs.Query.{Query};
-ghost use Rattle.druid_partial.specs.Partials.{IsPartialFor};
-ghost use Rattle.druid_link.specs.Links.{came_of};
+ghost use Rattle.std.specs.Prelude.{◌≡◌, ◌⊎◌, ◌++◌, List, [], Any, IfOk, OnErr, IfSome, IsSome, filter, length, map, option_map};
+ghost use Rattle.std.specs.BTreeSet.{contains};
+ghost use Rattle.druid_partial.specs.Groups.{Group, IsResult};
+ghost use Rattle.druid_partial.specs.Partials.{IsPartialFor, kinds_of};
 ghost use Rattle.druid_scatter.specs.Gathered.{Exchange, AreMade};
-ghost use Rattle.druid_scatter.specs.Waiting.{TookIf, Goes, AsksOn, MayLackMemory, pieces_of, sub_if, wanted_of, made_from};
+ghost use Rattle.druid_scatter.specs.Waiting.{Goes, AsksOn, MayLackMemory, TellsIf, at_cmp, pieces_of, stays};
 
-use crate::answering::answer_of;
-use crate::requests::{ask, subs_for};
-use crate::waiting::{Waiting, into_pieces, keep_missing};
+use crate::exchanging::{add_told, ask_all, no_places};
+use crate::requests::asks_for;
+use crate::waiting::{Places, Waiting, into_pieces, keep_missed};
 use crate::{Answer, GatherFault};
 use druid_link::Link;
-use druid_message::WireFault;
-use druid_partial::{Partial, merge};
-use druid_query::{Query, SubQuery};
+use druid_partial::Partial;
+use druid_query::Query;
 use std::alloc::Global;
 use std::marker::Model;
 use std::thread::Threads;
@@ -42,60 +40,30 @@ impl Gathering {
         Gathering { waiting, partial }
     }
 
-    // After what came of asking a node, if it was asked.
-    fn after(
+    // After a round whose answers tell this, and miss what stands at these places.
+    fn settle(
         self,
         alloc: Global,
         query: &Query,
         round: usize,
-        node: usize,
-        sub: &Option<SubQuery>,
-        came: &Option<Result<Vec<u8>, WireFault>>,
+        missed: &[Option<Places>],
+        told: Option<Partial>,
     ) -> Result<Gathering, GatherFault>
         requires of_query { IsPartialFor query.now self.partial }
-        requires query { IfSome sub.now (λ s. s.query ≡ query.now) }
-        ensures took { IfOk result (λ new. TookIf round node self new sub.now (option_map came_of came.now)) }
+        requires told { IfSome told (IsPartialFor query.now) }
+        ensures kept { IfOk result (λ new. new.waiting ≡ filter (stays round (map (option_map (contains at_cmp)) missed.now)) self.waiting) }
+        ensures merged { IfOk result (λ new. (a b : List Group) → IsResult (kinds_of query.now) a self.partial.groups → TellsIf query.now b told
+            → IsResult (kinds_of query.now) (a ++ b) new.partial.groups) }
         ensures of_query { IfOk result (λ new. IsPartialFor query.now new.partial) }
-        ensures err { OnErr result (IsSomeAnd (option_map came_of came.now) MayLackMemory) }
+        ensures err { OnErr result (IsSome told) }
     {
-        let (Some(sub), Some(came)) = (sub, came) else {
-            return Ok(self);
-        };
-        let Some(answer) = answer_of(alloc, sub, came)? else {
-            return Ok(self);
-        };
-        let (reported, missing) = answer.into_parts();
-        // For the proof: reading it exposes the invariant of its type.
-        let _ = reported.groups();
-        let waiting = keep_missing(alloc, self.waiting, round, node, &missing)?;
-        match merge(alloc, self.partial, reported) {
-            Ok(partial) => Ok(Gathering { waiting, partial }),
-            Err(_) => Err(GatherFault::Memory),
-        }
-    }
-
-    // After the exchanges of a round.
-    fn settle_round(
-        self,
-        alloc: Global,
-        query: &Query,
-        round: usize,
-        subs: &[Option<SubQuery>],
-        came: &[Option<Result<Vec<u8>, WireFault>>],
-    ) -> Result<Gathering, GatherFault>
-        requires of_query { IsPartialFor query.now self.partial }
-        requires subs { subs.now ≡ map (λ node. sub_if query.now (wanted_of round self.waiting node)) (range_with_len 0 (length subs.now)) }
-        requires matched { AllZip (λ s c. is_some s ≡ is_some c) subs.now (map (option_map came_of) came.now) }
-        ensures goes { IfOk result (λ new. Goes query.now round 0 (length subs.now) self new
-            (made_from (wanted_of round self.waiting) 0 (map (option_map came_of) came.now))) }
-        ensures of_query { IfOk result (λ new. IsPartialFor query.now new.partial) }
-        ensures err { OnErr result (Any (λ one. IsSomeAnd one MayLackMemory) (map (option_map came_of) came.now)) }
-    {
-        let mut gathering = self;
-        for node in 0..subs.len() {
-            gathering = gathering.after(alloc, query, round, node, &subs[node], &came[node])?;
-        }
-        Ok(gathering)
+        let Gathering {
+            mut waiting,
+            partial,
+        } = self;
+        keep_missed(&mut waiting, round, missed);
+        let partial = add_told(alloc, query, partial, told)?;
+        Ok(Gathering { waiting, partial })
     }
 
     // After a round: each piece that waits is asked of the next node in its order.
@@ -114,9 +82,10 @@ impl Gathering {
         ensures err { OnErr result ((more : List Exchange) × AreMade L.exchanges query.now more links.old links.new
             × AsksOn query.now round self more × ((more ≡ []) ⊎ Any (λ e. MayLackMemory e.came) more)) }
     {
-        let subs = subs_for(alloc, query, &self.waiting, round, links.len())?;
-        let came = ask(rt, alloc, &subs, links)?;
-        self.settle_round(alloc, query, round, &subs, &came)
+        let asks = asks_for(alloc, query, &self.waiting, round, links.len())?;
+        let mut missed = no_places(alloc, links.len())?;
+        let told = ask_all(rt, &alloc, query, &asks, links, missed.as_mut_slice())?;
+        self.settle(alloc, query, round, &missed, told)
     }
 
     pub(crate) fn into_answer(self, alloc: Global) -> Result<Answer, GatherFault>

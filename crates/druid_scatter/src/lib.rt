@@ -2,6 +2,7 @@
 #![tactic(auto)]
 
 mod answering;
+mod exchanging;
 mod fault;
 mod gathering;
 mod laws;
@@ -9,7 +10,6 @@ mod pairs;
 mod pick;
 mod planning;
 mod requests;
-mod round;
 mod scatter;
 mod waiting;
 
@@ -19,5 +19,4 @@ pub use laws::{gathered_rows_are_exact, none_ailing_is_rotate, one_plan, plans_m
 pub use pairs::{Pair, Plan};
 pub use pick::{AilingLast, Pick, Rotate};
 pub use planning::plan;
-pub use round::ask_round;
 pub use scatter::gather;

@@ -1,4 +1,5 @@
-//! In which order the replicas of a piece are asked.
+//! In which order the replicas of a piece are asked. Which nodes ail is looked at once for a query,
+//! so that an order is a function of the pick's value and the turn.
 ghost use Rattle.std.specs.Prelude.{◌≡◌, ◌≤◌, ◌<◌, ◌+◌, ℕ, List, ◌∷◌, ◌++◌, length};
 ghost use Rattle.std.specs.List.Sorted.{IsPermutation};
 ghost use Rattle.druid_scatter.specs.Order.{turned, has_node, ailing_last};

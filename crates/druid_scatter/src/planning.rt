@@ -77,6 +77,10 @@ fn keep_served(pairs: &mut Vec<Pair>)
 /// From which pieces of which segments the query is answered, and which nodes serve rows of each, as far as the inventory
 /// tells: the chunks that are visible in the intervals of the query, each in just the pieces in which it is visible. What is
 /// held as a tombstone alone overshadows, but is not asked for.
+///
+/// # Errors
+///
+/// G9.
 pub fn plan(alloc: Global, inventory: &Inventory, query: &Query) -> Result<Plan, GatherFault>
     ensures ok { IfOk result (λ plan. IsPlanOf inventory.now query.now plan) }
 {

@@ -1,78 +1,118 @@
-//! What a round asks the nodes for.
-ghost use Rattle.std.specs.Prelude.{◌≡◌, ℕ, IfOk, OnErr, length, map, option_map};
+//! What a round asks the nodes for. A request has no limit: past 16 MiB the node refuses it, and
+//! its pieces go on to the next replica and are missing in the end.
+ghost use Rattle.std.specs.Prelude.{◌≡◌, ℕ, List, [], IfOk, OnOk, length, map, slice_get};
 ghost use Rattle.std.specs.List.{range_with_len};
-ghost use Rattle.druid_link.specs.Links.{came_of};
-ghost use Rattle.druid_scatter.specs.Rounds.{AreAnswered};
-ghost use Rattle.druid_scatter.specs.Waiting.{sub_if, sub_request, wanted_of};
+ghost use Rattle.druid_query.specs.Asked.{Asked};
+ghost use Rattle.druid_scatter.specs.Waiting.{pushed, pushed_at, sub_if, sub_request, wanted_of};
 
-use crate::ask_round;
 use crate::waiting::Waiting;
-use druid_link::Link;
-use druid_message::{Request, WireFault};
+use druid_message::Request;
 use druid_query::{Asked, Query, SubQuery};
 use druid_query_text::subquery_text;
 use druid_wire::request_bytes;
 use http::Method;
 use std::alloc::{AllocError, Global};
-use std::thread::Threads;
+use std::marker::Model;
 
-// What the nodes answered, place by place.
-pub(crate) type Came = Vec<Option<Result<Vec<u8>, WireFault>>>;
+// A subquery to a node, and the bytes that ask it.
+#[derive(Debug, Drop)]
+pub(crate) struct Ask {
+    sub: SubQuery,
+    bytes: Vec<u8>,
+}
 
+impl Model for Ask {
+    ghost use Rattle.std.specs.Prelude.{◌≡◌};
+    ghost use Rattle.std.specs.Coded.{codes};
+    ghost use Rattle.druid_filter.specs.FilterCode.{coded_condition};
+    ghost use Rattle.druid_query.specs.SubQuery.{SubQuery};
+    ghost use Rattle.druid_scatter.specs.Waiting.{sub_request};
+
+    ghost Value = { SubQuery };
+
+    ghost coded = { Prim.hlevel (codes, coded_condition) };
+
+    ghost view = { λ a. a.sub };
+
+    ghost invariant = { λ a. a.bytes.items ≡ sub_request a.sub };
+}
+
+impl Ask {
+    // A subquery, with the bytes that ask it.
+    fn new(sub: SubQuery, bytes: Vec<u8>) -> Ask
+        requires { bytes.items ≡ sub_request sub }
+        ensures { result ≡ sub }
+    {
+        Ask { sub, bytes }
+    }
+
+    // The subquery.
+    pub(crate) fn sub(&self) -> &SubQuery
+        ensures { result.now ≡ self.now }
+    {
+        &self.sub
+    }
+
+    // The bytes that ask it.
+    pub(crate) fn bytes(&self) -> &[u8]
+        ensures { result.now ≡ sub_request self.now }
+    {
+        &self.bytes
+    }
+}
+
+// Places for what so many nodes are asked for, which is nothing yet.
+fn no_slices(alloc: Global, count: usize) -> Result<Vec<Vec<Asked>>, AllocError>
+    ensures { IfOk result (λ slices. map (λ v. v.items) slices.items ≡ map (λ node. []) (range_with_len 0 count)) }
+{
+    let mut slices = Vec::with_capacity(alloc, count)?;
+    for _ in 0..count {
+        slices.push(Vec::new(alloc))?;
+    }
+    Ok(slices)
+}
+
+// Adds a piece to those that a node is asked for; a node without a place is not asked.
+fn push_at(slices: &mut [Vec<Asked>], node: usize, asked: &Asked) -> Result<(), AllocError>
+    ensures pushed { OnOk result (map (λ v. v.items) slices.new ≡ pushed (map (λ v. v.items) slices.old) node asked.now) }
+    ensures count { length slices.new ≡ length slices.old }
+{
+    if node >= slices.len() {
+        return Ok(());
+    }
+    let (segment, interval) = asked;
+    slices[node].push((segment.clone()?, *interval))?;
+    Ok(())
+}
+
+// Adds a piece to those that the node is asked for whose turn it is.
+fn push_turn(slices: &mut [Vec<Asked>], piece: &Waiting, round: usize) -> Result<(), AllocError>
+    ensures pushed { OnOk result (map (λ v. v.items) slices.new ≡ pushed_at (map (λ v. v.items) slices.old) (slice_get piece.now.order round) piece.now.asked) }
+    ensures count { length slices.new ≡ length slices.old }
+{
+    match piece.turn(round) {
+        Some(node) => push_at(slices, node, piece.asked()),
+        None => Ok(()),
+    }
+}
+
+// What the round asks each node for, place by place: all in one pass over what waits.
 fn slices_for(
     alloc: Global,
     waiting: &[Waiting],
     round: usize,
-    node: usize,
-) -> Result<Vec<Asked>, AllocError>
-    ensures { IfOk result (λ asked. asked.items ≡ wanted_of round waiting.now node) }
-{
-    let mut asked = Vec::new(alloc);
-    for piece in waiting {
-        if piece.has_turn(round, node) {
-            let (segment, interval) = piece.asked();
-            asked.push((segment.clone()?, *interval))?;
-        }
-    }
-    Ok(asked)
-}
-
-// The subquery to a node, if the round asks it for anything.
-fn sub_for(
-    alloc: Global,
-    query: &Query,
-    waiting: &[Waiting],
-    round: usize,
-    node: usize,
-) -> Result<Option<SubQuery>, AllocError>
-    ensures { IfOk result (λ sub. sub ≡ sub_if query.now (wanted_of round waiting.now node)) }
-{
-    let asked = slices_for(alloc, waiting, round, node)?;
-    if asked.is_empty() {
-        return Ok(None);
-    }
-    Ok(Some(SubQuery::new(query.clone()?, asked)))
-}
-
-// The subqueries to the nodes, place by place.
-pub(crate) fn subs_for(
-    alloc: Global,
-    query: &Query,
-    waiting: &[Waiting],
-    round: usize,
     count: usize,
-) -> Result<Vec<Option<SubQuery>>, AllocError>
-    ensures { IfOk result (λ subs. subs.items
-        ≡ map (λ node. sub_if query.now (wanted_of round waiting.now node)) (range_with_len 0 count)) }
+) -> Result<Vec<Vec<Asked>>, AllocError>
+    ensures { IfOk result (λ slices. map (λ v. v.items) slices.items ≡ map (wanted_of round waiting.now) (range_with_len 0 count)) }
 {
-    let mut subs = Vec::with_capacity(alloc, count)?;
-    for node in 0..count {
-        subs.push(sub_for(alloc, query, waiting, round, node)?)?;
+    let mut slices = no_slices(alloc, count)?;
+    for piece in waiting {
+        push_turn(slices.as_mut_slice(), piece, round)?;
     }
-    Ok(subs)
+    Ok(slices)
 }
 
-// The request for a subquery.
+// The bytes that ask a subquery.
 fn request_for(alloc: Global, sub: &SubQuery) -> Result<Vec<u8>, AllocError>
     ensures { IfOk result (λ bytes. bytes.items ≡ sub_request sub.now) }
 {
@@ -81,43 +121,44 @@ fn request_for(alloc: Global, sub: &SubQuery) -> Result<Vec<u8>, AllocError>
     request_bytes(alloc, &Request::new(Method::POST, target, body))
 }
 
-// The request to a node, if it is asked for anything.
-fn request_if(alloc: Global, sub: &Option<SubQuery>) -> Result<Option<Vec<u8>>, AllocError>
-    ensures { IfOk result (λ request. option_map (λ v. v.items) request ≡ option_map sub_request sub.now) }
+// The subquery for pieces, if there are any.
+fn ask_if(alloc: Global, query: &Query, asked: Vec<Asked>) -> Result<Option<Ask>, AllocError>
+    ensures { IfOk result (λ ask. ask ≡ sub_if query.now asked.items) }
 {
-    match sub {
-        Some(sub) => Ok(Some(request_for(alloc, sub)?)),
-        None => Ok(None),
+    if asked.is_empty() {
+        return Ok(None);
     }
+    let sub = SubQuery::new(query.clone()?, asked);
+    let bytes = request_for(alloc, &sub)?;
+    Ok(Some(Ask::new(sub, bytes)))
 }
 
-// The requests for subqueries, place by place.
-fn requests_for(
+// What nodes are asked for these pieces, place by place.
+fn asks_of(
     alloc: Global,
-    subs: &[Option<SubQuery>],
-) -> Result<Vec<Option<Vec<u8>>>, AllocError>
-    ensures { IfOk result (λ requests. map (option_map (λ v. v.items)) requests.items
-        ≡ map (option_map sub_request) subs.now) }
+    query: &Query,
+    slices: Vec<Vec<Asked>>,
+) -> Result<Vec<Option<Ask>>, AllocError>
+    ensures { IfOk result (λ asks. asks.items ≡ map (λ asked. sub_if query.now asked.items) slices.items) }
 {
-    let mut requests = Vec::with_capacity(alloc, subs.len())?;
-    for sub in subs {
-        requests.push(request_if(alloc, sub)?)?;
+    let mut asks = Vec::with_capacity(alloc, slices.len())?;
+    for asked in slices {
+        asks.push(ask_if(alloc, query, asked)?)?;
     }
-    Ok(requests)
+    Ok(asks)
 }
 
-// Sends each node its subquery, if it has one, all at once.
-pub(crate) fn ask<L: Link + Send, R: Threads + Sync>(
-    rt: &R,
+// What the round asks the nodes, place by place; a node of which it wants nothing is not asked.
+pub(crate) fn asks_for(
     alloc: Global,
-    subs: &[Option<SubQuery>],
-    links: &mut [L],
-) -> Result<Came, AllocError>
-    requires { length links.old ≡ length subs.now }
-    ensures ok { IfOk result (λ came. AreAnswered L.exchanges links.old (map (option_map sub_request) subs.now)
-        (map (option_map came_of) came.items) links.new) }
-    ensures err { OnErr result (links.new ≡ links.old) }
+    query: &Query,
+    waiting: &[Waiting],
+    round: usize,
+    count: usize,
+) -> Result<Vec<Option<Ask>>, AllocError>
+    ensures { IfOk result (λ asks. asks.items
+        ≡ map (λ node. sub_if query.now (wanted_of round waiting.now node)) (range_with_len 0 count)) }
 {
-    let requests = requests_for(alloc, subs)?;
-    ask_round(rt, alloc, links, &requests)
+    let slices = slices_for(alloc, waiting, round, count)?;
+    asks_of(alloc, query, slices)
 }

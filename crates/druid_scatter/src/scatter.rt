@@ -13,10 +13,18 @@ use druid_query::Query;
 use std::alloc::Global;
 use std::thread::Threads;
 
-/// Answers a query from the pieces of a plan. Each piece is asked of one node after another, in the order that `pick` gives
-/// them, until one gives it; a round sends each node one request for all that is asked of it. The nodes of a round are asked all
-/// at once, as `ask_round` asks them. A piece that no node gave is missing. G9 where memory runs out, also to a link: then
-/// too each piece was asked of its nodes alone, of each once at most and in that order.
+/// Answers a query from the pieces of a plan. Each piece is asked of one node after another, in the
+/// order that `pick` gives them, until one gives it; a round sends each node one request for all
+/// that is asked of it. The nodes of a round are asked all at once, each on a thread of its own,
+/// which reads the answer, and has ended when it returns: a node that waits keeps no other waiting.
+/// `rt` starts the threads. One of the nodes is asked by the thread that calls, so a single node
+/// needs no other; where none can be started, the nodes are asked one after another. A piece that
+/// no node gave is missing.
+///
+/// # Errors
+///
+/// G9, out of memory of a link and for an answer too. The links have made exchanges: each piece was
+/// asked of its nodes alone, of each once at most and in that order.
 pub fn gather<P: Pick, L: Link + Send, R: Threads + Sync>(
     rt: &R,
     alloc: Global,

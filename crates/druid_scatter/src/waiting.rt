@@ -1,8 +1,8 @@
 //! Pieces that wait for an answer.
-ghost use Rattle.std.specs.Prelude.{◌≡◌, ◌≤◌, ◌↔◌, ℕ, IsTrue, Contains, IfOk, filter, length};
+ghost use Rattle.std.specs.Prelude.{◌≡◌, ◌≤◌, Contains, IfOk, filter, length, map, option_map, slice_get};
 ghost use Rattle.std.specs.List.Sorted.{IsPermutation};
 ghost use Rattle.std.specs.BTreeSet.{contains};
-ghost use Rattle.druid_scatter.specs.Waiting.{Waiting, StandsOnce, AreOrdered, Keeps, StandsIn, stays, at_cmp, place_of, has_turn, pieces_of};
+ghost use Rattle.druid_scatter.specs.Waiting.{Waiting, StandsOnce, AreOrdered, TellsPlaces, stays, at_cmp, place_of, pieces_of};
 
 use crate::{Pair, Pick, Plan};
 use druid_query::Asked;
@@ -14,6 +14,9 @@ use std::marker::Model;
 
 // The start of a piece, and the partition of its segment: a plan has one piece there.
 type Place = (Instant, u16);
+
+// The places of pieces.
+pub(crate) type Places = BTreeSet<Place>;
 
 fn place_of(asked: &Asked) -> Place
     ensures { result ≡ place_of asked.now }
@@ -76,13 +79,13 @@ impl Waiting {
         &self.asked
     }
 
-    // Whether the round asks the node for it.
-    pub(crate) fn has_turn(&self, round: usize, node: usize) -> bool
-        ensures { result ≡ has_turn round node self.now }
+    // The node that the round asks for it.
+    pub(crate) fn turn(&self, round: usize) -> Option<usize>
+        ensures { result ≡ slice_get self.now.order round }
     {
         match self.order.get(round) {
-            Some(next) => *next as usize == node,
-            None => false,
+            Some(node) => Some(*node as usize),
+            None => None,
         }
     }
 
@@ -133,8 +136,8 @@ pub(crate) fn most_nodes(waiting: &[Waiting]) -> usize
 }
 
 // Where each of these pieces stands in a plan.
-fn places_of(alloc: Global, asked: &[Asked]) -> Result<BTreeSet<Place>, AllocError>
-    ensures { IfOk result (λ places. (p : ℕ × ℕ) → IsTrue (contains at_cmp places p) ↔ StandsIn asked.now p) }
+pub(crate) fn places_of(alloc: Global, asked: &[Asked]) -> Result<Places, AllocError>
+    ensures { IfOk result (λ places. TellsPlaces (contains at_cmp places) asked.now) }
 {
     let mut places = BTreeSet::new(alloc);
     for piece in asked {
@@ -143,48 +146,24 @@ fn places_of(alloc: Global, asked: &[Asked]) -> Result<BTreeSet<Place>, AllocErr
     Ok(places)
 }
 
-// Whether a piece still waits: the round did not ask the node for it, or the node missed it.
-fn stays(piece: &Waiting, round: usize, node: usize, missing: &BTreeSet<Place>) -> bool
-    ensures { result ≡ stays round node (contains at_cmp missing.now) piece.now }
+// Whether a piece still waits: the round asked no node for it, or one that did not answer, or whose answer misses it.
+fn stays(piece: &Waiting, round: usize, missed: &[Option<Places>]) -> bool
+    ensures { result ≡ stays round (map (option_map (contains at_cmp)) missed.now) piece.now }
 {
-    if !piece.has_turn(round, node) {
+    let Some(node) = piece.turn(round) else {
         return true;
+    };
+    match missed.get(node) {
+        Some(Some(places)) => places.contains(&place_of(piece.asked())),
+        _ => true,
     }
-    missing.contains(&place_of(piece.asked()))
 }
 
-// The pieces that still wait.
-fn still_waiting(
-    alloc: Global,
-    waiting: Vec<Waiting>,
-    round: usize,
-    node: usize,
-    missing: &BTreeSet<Place>,
-) -> Result<Vec<Waiting>, AllocError>
-    ensures { IfOk result (λ kept. kept.items ≡ filter (stays round node (contains at_cmp missing.now)) waiting.items) }
+// Lets go of what the round's answers gave: in one pass over what waits.
+pub(crate) fn keep_missed(waiting: &mut Vec<Waiting>, round: usize, missed: &[Option<Places>])
+    ensures { waiting.new.items ≡ filter (stays round (map (option_map (contains at_cmp)) missed.now)) waiting.old.items }
 {
-    let mut kept = Vec::with_capacity(alloc, waiting.len())?;
-    for piece in waiting {
-        if stays(&piece, round, node, missing) {
-            kept.push(piece)?;
-        }
-    }
-    Ok(kept)
-}
-
-// Of what waits, keeps what the round did not ask the node for, and what the node missed.
-#[tactic(auto, using(crate::proofs::WaitLemmas::keeps))]
-pub(crate) fn keep_missing(
-    alloc: Global,
-    waiting: Vec<Waiting>,
-    round: usize,
-    node: usize,
-    missing: &[Asked],
-) -> Result<Vec<Waiting>, AllocError>
-    ensures { IfOk result (λ kept. Keeps round node missing.now waiting.items kept.items) }
-{
-    let places = places_of(alloc, missing)?;
-    Ok(still_waiting(alloc, waiting, round, node, &places)?)
+    waiting.retain(|piece| stays(piece, round, missed));
 }
 
 pub(crate) fn into_pieces(alloc: Global, waiting: Vec<Waiting>) -> Result<Vec<Asked>, AllocError>

@@ -1,4 +1,5 @@
-//! Readers of columns. They judge, and keep no more than lengths.
+//! Readers of columns. They judge, and keep no more than lengths and marks, in arrays on the stack
+//! of one function (300 KB), so that each fault comes before memory is taken.
 ghost use Rattle.std.specs.Prelude.{◌≡◌, ◌↔◌, ◌≤◌, ◌<◌, ◌*◌, ◌+◌, length, map, sum, All, IsTrue, IfOk};
 ghost use Rattle.std.specs.Option.{option_map};
 ghost use Rattle.druid_rows.specs.Numbering.{with_mark};

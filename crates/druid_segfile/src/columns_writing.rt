@@ -187,10 +187,14 @@ fn read_dimensions(segment: &Segment)
     }
 }
 
-/// Writes the spelling of a segment by columns, in the layout `DSG2`. `TooLong` where it has more than 16,777,216
-/// bytes: then nothing is written. Else `Write` where the writer fails and `Memory` where memory runs out, also to the
-/// writer: then it has got some front of the spelling, and not the whole. An interrupted write is retried, 1,000 times
-/// in a row at most. At most 64 KiB and one column are gathered before a write. Nothing is flushed.
+/// Writes the spelling of a segment by columns, in the layout `DSG2`. An interrupted write is
+/// retried, 1,000 times in a row at most. At most 64 KiB and one column are gathered before a
+/// write. Nothing is flushed.
+///
+/// # Errors
+///
+/// F5 where it has more than 16,777,216 bytes: nothing is written. F8, or F9 of the writer too: it
+/// has some front of the spelling, and not the whole.
 pub fn write_columns<W: Write>(
     alloc: Global,
     segment: &Segment,

@@ -1,3 +1,4 @@
+//! Why a segment was not read, or not written.
 ghost use Rattle.std.specs.Prelude.{◌≡◌};
 ghost use Rattle.druid_segfile.specs.declared.fault.FileFault.TheVariants.{Memory};
 

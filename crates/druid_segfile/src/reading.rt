@@ -1,3 +1,6 @@
+//! Segment files, read. The bytes are read whole, so F7 and F9 of the reader come before a fault of
+//! the text; then they are judged from left to right without memory, and only what spells a segment
+//! is built: after a fault of the text there is no F9.
 ghost use Rattle.std.specs.Prelude.{◌≡◌, ◌≢◌, ◌↔◌, ◌⊎◌, ◌+◌, ◌≤◌, ◌<◌, ℕ, List, length, take, slice_index_or, Some, Ok, Err, IfOk, IfErr, IfSome, OnErr};
 ghost use Rattle.std.specs.Io.KnownBytes.{Consumes, IsAtEnd, Keeps};
 ghost use Rattle.std.specs.IoError.{error_kind};
@@ -242,8 +245,12 @@ fn short_of(bytes: &[u8]) -> FileFault
     }
 }
 
-/// The segment that the bytes spell in either layout, all of them. They are judged before anything is allocated: the
-/// faults are those of `read_segment`, but `Read` and `Write`, and `Memory` only where the bytes spell a segment.
+/// The segment that the bytes spell in either layout, all of them. They are judged before anything
+/// is allocated.
+///
+/// # Errors
+///
+/// F1 to F6 as of `read_segment`; F9 only of bytes that spell a segment.
 pub fn segment_of(alloc: Global, bytes: &[u8]) -> Result<Segment, FileFault>
     ensures found { IfOk result (IsFileOf bytes.now) }
     ensures valid { IfOk result IsSegment }
@@ -261,18 +268,18 @@ pub fn segment_of(alloc: Global, bytes: &[u8]) -> Result<Segment, FileFault>
     Ok(judged.segment(alloc, short)?)
 }
 
-/// The segment that the bytes of a reader spell in either layout, `DSG1` or `DSG2`, all of them to its end. No more than
-/// 16,777,217 bytes are read.
+/// The segment that the bytes of a reader spell in either layout, `DSG1` or `DSG2`, all of them to
+/// its end. No more than 16,777,217 bytes are read.
 ///
-/// The fault is the first one from the left: `Magic` where the first four bytes are neither `DSG1` nor `DSG2`, `Cut`
-/// where the input ends inside a part, `Field` where a part breaks a rule, `RowOutside` where a row's instant lies
-/// outside the interval, `TooLong` where a count or a length passes its limit or more than 16,777,216 bytes are needed,
-/// and `Trailing` where a byte follows the last part. By columns a part breaks a rule also where a text does not stand
-/// above the one before it, where a code is above the number of texts, where a text has no row, which is reported after
-/// the last code of its dimension, and where a mark is neither 0 nor 1; a dimension with more texts than rows is
-/// `TooLong`, and so is, once the last part is read, a segment that takes more than 16,777,216 bytes in `DSG1`. `Read`
-/// where the reader fails, and `Memory` where memory runs out: for the bytes as they come, before they are judged, and
-/// for the segment, once they are found to spell one.
+/// # Errors
+///
+/// The first from the left of F1, F2, F3, F4, F5 and F6. By columns a part breaks a rule also where
+/// a text does not stand above the one before it, where a code is above the number of texts, where
+/// a text has no row, which is reported after the last code of its dimension, and where a mark is
+/// neither 0 nor 1; a dimension with more texts than rows is F5, and so is, once the last part is
+/// read, a segment that takes more than 16,777,216 bytes in `DSG1`. F7 and F9 may come in place of
+/// any: F9 for the bytes as they come, before they are judged, and for the segment once they spell
+/// one (read in the code).
 pub fn read_segment<R: Read>(alloc: Global, reader: &mut R) -> Result<Segment, FileFault>
     // What is read is spelled so, each byte of it, and the input ends there.
     ensures found { IfOk result (λ segment. IfSome (R.remaining reader.old) (λ bytes. IsFileOf bytes segment)) }

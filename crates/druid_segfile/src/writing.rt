@@ -1,3 +1,4 @@
+//! Segments written by rows, in the layout `DSG1`.
 ghost use Rattle.std.specs.Prelude.{◌≡◌, ◌≢◌, ◌↔◌, ◌⊎◌, ◌<◌, length, Err, OnOk, OnErr, IfErr};
 ghost use Rattle.std.specs.Io.KnownBytes.{Appends};
 ghost use Rattle.std.specs.IoError.{error_kind};
@@ -57,9 +58,12 @@ pub(crate) fn write_gathered<W: Write>(
     Ok(())
 }
 
-/// Writes the spelling of a segment. `Write` where the writer fails and `Memory` where memory runs out, also to the
-/// writer: then it has got some front of the spelling, and not the whole. An interrupted write is retried, 1,000 times in a row at
-/// most. Nothing is flushed.
+/// Writes the spelling of a segment. An interrupted write is retried, 1,000 times in a row at most.
+/// Nothing is flushed.
+///
+/// # Errors
+///
+/// F8, or F9 of the writer too: it has some front of the spelling, and not the whole.
 pub fn write_segment<W: Write>(
     alloc: Global,
     segment: &Segment,

@@ -1,3 +1,4 @@
+//! Groups of segments, and the order of their ranks, by which alone versions are compared.
 ghost use Rattle.std.specs.Prelude.{◌≡◌, ◌+◌, ◌++◌, ◌↔◌, ◌==◌, ◌&&◌, IsTrue, bytes_eq};
 ghost use Rattle.std.proofs.Common.{rules};
 ghost use Rattle.std.specs.Hash as fed;

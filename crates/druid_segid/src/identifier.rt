@@ -1,3 +1,4 @@
+//! Segment identifiers, as their four parts.
 ghost use Rattle.std.specs.Prelude.{◌≡◌, ◌↔◌, ◌++◌, IsTrue, IfOk};
 ghost use Rattle.std.proofs.Common.{rules};
 ghost use Rattle.std.specs.Hash as fed;
@@ -87,6 +88,10 @@ impl SegmentId {
     }
 
     /// Its group, within the data source.
+    ///
+    /// # Errors
+    ///
+    /// Out of memory.
     pub fn group(&self) -> Result<GroupKey, AllocError>
         ensures { IfOk result (λ group. group ≡ group_of self.now) }
     {

@@ -1,3 +1,6 @@
+//! A meter is ghost data: it has no field at run time. `Rank::beats` alone counts on it, since no
+//! other public call of this crate takes one by `&mut`; what a count stands for is the author's
+//! word.
 ghost use Rattle.std.specs.Prelude.{◌≡◌, ◌+◌};
 
 use crate::count::Count;

@@ -1,3 +1,4 @@
+//! Names of data sources.
 ghost use Rattle.std.specs.Prelude.{◌≡◌, ◌↔◌, ◌⊎◌, Some, refl, IsTrue, IsOkUnless, IsErrOf, IfOk, IfErr, OnOk, string_bytes, bytes_eq, All};
 ghost use Rattle.std.specs.List.{list_all};
 ghost use Rattle.std.specs.Cmp.{partial_equiv_from_equiv};
@@ -58,7 +59,11 @@ impl Name {
         1 <= bytes.len() && bytes.len() <= MAX_NAME && are_name_bytes(bytes)
     }
 
-    /// The name of that text. I1 where the text is no name, I9 where memory runs out.
+    /// The name of that text.
+    ///
+    /// # Errors
+    ///
+    /// I1; I9 last.
     pub fn new(alloc: Global, text: &str) -> Result<Name, IdFault>
         ensures value { IfOk result (λ name. name ≡ text.now) }
         ensures names { OnOk result (IsName text.now) }
@@ -76,6 +81,10 @@ impl Name {
     }
 
     /// A copy of the text.
+    ///
+    /// # Errors
+    ///
+    /// Out of memory.
     pub fn text(&self, alloc: Global) -> Result<String, AllocError>
         ensures { IfOk result (λ text. string_bytes text ≡ self.now) }
     {

@@ -1,4 +1,6 @@
-//! The order of identifiers: by the bytes of their texts.
+//! The order of identifiers: by the bytes of their texts. Values that are no identifiers may share
+//! a text, so after it `identifier_cmp` goes by the parts: then the order agrees with equality, and
+//! a hash may look at the parts.
 ghost use Rattle.std.specs.Prelude.{◌≡◌, ◌++◌, Some, refl};
 ghost use Rattle.std.specs.Ordering.{nat_cmp};
 ghost use Rattle.std.specs.Cmp.Lexicographic.{slice_cmp};

@@ -124,9 +124,10 @@ fn partition_of(tail: &[u8]) -> Option<u16>
 impl SegmentId {
     /// The identifier of that source that the text spells.
     ///
-    /// I3 where the text does not begin with the source and `_`, then I4 where what follows has not the
-    /// parts of an identifier, I5 where it has no interval in the printed form, I2 where it has no version and
-    /// I6 where it has no partition; I9 where memory runs out.
+    /// # Errors
+    ///
+    /// I3; then I4; then I5, unless it has an interval in the printed form; then I2; then I6; I9
+    /// last.
     #[tactic(auto, unfolding(crate::specs::Parsed::identifier_at))]
     pub fn parse(alloc: Global, source: &Name, text: &str) -> Result<SegmentId, IdFault>
         ensures value { Gives result (identifier_at source.now text.now) }

@@ -52,6 +52,10 @@ pub(crate) fn append_suffix(out: &mut [u8], at: usize, partition: u16) -> usize
 
 impl SegmentId {
     /// `{source}_{start}_{end}_{version}`, followed by `_{partition}` where the partition is not 0.
+    ///
+    /// # Errors
+    ///
+    /// Out of memory.
     #[tactic(auto, using(crate::proofs::IdentifierLemmas::text_facts))]
     pub fn text(&self, alloc: Global) -> Result<String, AllocError>
         ensures { IfOk result (λ text. string_bytes text ≡ identifier_text self.now) }

@@ -1,3 +1,7 @@
+//! The text of a name or of a version. It is shared here, and not in a descriptor, so that the keys
+//! of groups and the identifiers that lookups and inventories copy are cheap too. `Name` and
+//! `Version` each write out their copies and their equality: the gate takes no impl that a macro of
+//! the repository wrote.
 ghost use Rattle.std.specs.Prelude.{◌≡◌, ◌↔◌, Some, refl, IsTrue, IfOk, bytes_eq, string_bytes};
 ghost use Rattle.std.proofs.Common.{rules};
 ghost use Rattle.std.specs.Ordering.{nat_cmp};

@@ -1,3 +1,4 @@
+//! Versions of segments.
 ghost use Rattle.std.specs.Prelude.{◌≡◌, ◌↔◌, ◌⊎◌, length, IsTrue, IsOkUnless, IsErrOf, IfOk, IfErr, OnOk, string_bytes, bytes_eq, All};
 ghost use Rattle.std.specs.List.{list_all};
 ghost use Rattle.std.specs.Cmp.{partial_equiv_from_equiv};
@@ -57,7 +58,11 @@ impl Version {
         1 <= bytes.len() && bytes.len() <= MAX_VERSION && are_version_bytes(bytes)
     }
 
-    /// The version of that text. I2 where the text is no version, I9 where memory runs out.
+    /// The version of that text.
+    ///
+    /// # Errors
+    ///
+    /// I2; I9 last.
     pub fn new(alloc: Global, text: &str) -> Result<Version, IdFault>
         ensures value { IfOk result (λ version. version ≡ text.now) }
         ensures versions { OnOk result (IsVersion text.now) }
@@ -82,6 +87,10 @@ impl Version {
     }
 
     /// A copy of the text.
+    ///
+    /// # Errors
+    ///
+    /// Out of memory.
     pub fn text(&self, alloc: Global) -> Result<String, AllocError>
         ensures { IfOk result (λ text. string_bytes text ≡ self.now) }
     {

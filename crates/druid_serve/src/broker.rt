@@ -144,8 +144,8 @@ fn start_syncer<
 {
     let rt = *rt;
     let end = Arc::new(alloc, Handover::new())?;
-    let told = Arc::try_clone(&end)?;
-    match thread::spawn(&rt, move || follow_node(&rt, alloc, pace, syncer, &told)) {
+    let ended = Arc::try_clone(&end)?;
+    match thread::spawn(&rt, move || follow_node(&rt, alloc, pace, syncer, &ended)) {
         Ok(thread) => {
             drop(thread);
             Ok(end)
@@ -198,9 +198,9 @@ fn open_views<J: Publication, C: NodeList, R: Wait + Drop + Copy>(
     }
 }
 
-// What is told of a broker's turns with nodes: the broker's name, where it is logged, and the nodes with what is counted of each.
+// What a broker's turns with nodes are reported by: the broker's name, where it is logged, and the nodes with what is counted of each.
 #[derive(Drop)]
-struct Told<'a> {
+struct TurnReport<'a> {
     server: &'a str,
     log: &'a Arc<Log, Global>,
     nodes: &'a [FollowedNode],
@@ -224,18 +224,18 @@ fn followed_nodes(alloc: Global, nodes: &[NodeConfig]) -> Result<Vec<FollowedNod
 fn watcher_of<R: Wait + Clock + Copy + Drop>(
     rt: &R,
     alloc: Global,
-    told: &Told<'_>,
+    report: &TurnReport<'_>,
     node: usize,
 ) -> Result<TurnWatcher<R>, AllocError>
-    requires { node < length told.now.nodes.now }
+    requires { node < length report.now.nodes.now }
 {
-    let followed = &told.nodes[node];
+    let followed = &report.nodes[node];
     Ok(TurnWatcher::new(
         *rt,
         alloc,
-        String::from_str(alloc, told.server)?,
+        String::from_str(alloc, report.server)?,
         followed.name.clone()?,
-        Arc::try_clone(told.log)?,
+        Arc::try_clone(report.log)?,
         Arc::try_clone(&followed.meter)?,
     ))
 }
@@ -251,7 +251,7 @@ fn start_syncers<
     alloc: Global,
     pace: Pace,
     health: &Arc<Health, Global>,
-    told: &Told<'_>,
+    report: &TurnReport<'_>,
     nodes: &[NodeConfig],
     publisher: &Shared<J, R>,
     views: &mut Vec<View<J>>,
@@ -261,7 +261,7 @@ fn start_syncers<
     requires nodes { length nodes.now ≤ max_nodes }
     requires there { length nodes.now ≡ length J.opening }
     requires views { length nodes.now ≤ vec_len views.old }
-    requires told { length told.now.nodes.now ≡ length nodes.now }
+    requires report { length report.now.nodes.now ≡ length nodes.now }
     ensures views { OnOk result (length nodes.now + vec_len views.new ≡ vec_len views.old) }
     ensures each { IfOk result (λ syncers. vec_len syncers ≡ length nodes.now) }
 {
@@ -281,7 +281,7 @@ fn start_syncers<
                 &nodes[node],
                 Asker::Syncer,
             )?,
-            watcher: watcher_of(rt, alloc, told, node)?,
+            watcher: watcher_of(rt, alloc, report, node)?,
             publisher: Arc::try_clone(publisher)?,
         };
         syncers.push(start_syncer::<R, J, C>(rt, alloc, pace, syncer)?)?;
@@ -323,13 +323,13 @@ pub(crate) fn start_broker<
     let health = Arc::new(alloc, Health::new(alloc, count, pace.patience)?)?;
     let (publisher, mut views) = open_views::<J, C, R>(rt, alloc, list, inventory, workers)?;
     let followed = Arc::new(alloc, followed_nodes(alloc, nodes)?)?;
-    let told = Told {
+    let report = TurnReport {
         server: telemetry.name(),
         log: &log,
         nodes: &followed,
     };
     let syncers = start_syncers::<R, J, C>(
-        rt, alloc, pace, &health, &told, nodes, &publisher, &mut views,
+        rt, alloc, pace, &health, &report, nodes, &publisher, &mut views,
     )?;
     let source = Source::open(rt, alloc, front, listener, &gate)?;
     for view in views {

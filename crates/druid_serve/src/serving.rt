@@ -430,11 +430,18 @@ fn part_in<'a>(
     }
 }
 
-/// Serves the cluster of a config, or the part of it that a text names, prints the answers to the queries whose brokers are of the
-/// part, and ends once each of its brokers answered the connections from outside that the config asks for. A cluster without an end,
-/// or a part without brokers, then says on the error writer, in a line a server, where it listens and what it serves, and does not
-/// return. The threads that still wait for connections are left. Events go to the log. Ok only where the bytes are a config and the text is a part of it,
-/// and of each of these queries something was printed, in their order; where they are none, nothing is printed.
+/// Serves the cluster of a config, or the part of it that a text names, prints the answers to the
+/// queries whose brokers are of the part, and ends once each of its brokers answered the
+/// connections from outside that the config asks for. A cluster without an end, or a part without
+/// brokers, then says on the error writer, in a line a server, where it listens and what it serves,
+/// and does not return. The threads that still wait for connections are left. Events go to the log.
+/// Ok only where the bytes are a config and the text is a part of it, and of each of these queries
+/// something was printed, in their order.
+///
+/// # Errors
+///
+/// `BadConfig` where the bytes are no config, or the text is no part of it: nothing is printed.
+/// Then `BadFolder` or `Device`: which is tested.
 pub fn serve<
     R: Files<File = File>
         + Net<Listener = TcpListener, Stream = TcpStream>

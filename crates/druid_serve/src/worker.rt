@@ -44,7 +44,7 @@ pub(crate) struct Worker<R: Net + Clock + Wait + Drop, J: Publication> {
     ghost linked: { length J.opening ≤ vec_len links },
 }
 
-// What each request is answered by, whichever worker has it: where its path leads, where it is told of and counted, and the nodes
+// What each request is answered by, whichever worker has it: where its path leads, where it is logged and counted, and the nodes
 // by their numbers.
 #[derive(Drop)]
 struct Service<'a> {

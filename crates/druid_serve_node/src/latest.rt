@@ -1,4 +1,6 @@
-//! The mark from which the workers of a node answer.
+//! The mark from which the workers of a node answer, under a lock of its own, which is held to copy
+//! it. As an atomic word with a rule its functions would be proved, but that a thread may have it
+//! is not found where the thread's function has four type parameters.
 ghost use Rattle.std.specs.Prelude.{◌≡◌, ◌≢◌};
 ghost use Rattle.std.specs.declared.cmp.Ordering.TheVariants.{Greater};
 ghost use Rattle.druid_shard.specs.Mark.{mark_cmp};

@@ -1,4 +1,7 @@
-//! The thread of a node that loads what comes once the node listens.
+//! The thread of a node that loads what comes once the node listens. Of a load that answers nothing
+//! no clause could say that it was tried, since any load may be refused: an `EndOfLoads`, which
+//! only this thread gives, says it. That `serve` waits for it no test can say without a race: the
+//! start loads all that is there, and so a loader finds only what came after.
 ghost use Rattle.std.specs.Prelude.{◌≡◌, ◌≢◌};
 ghost use Rattle.std.specs.declared.cmp.Ordering.TheVariants.{Greater};
 ghost use Rattle.druid_shard.specs.Mark.{mark_cmp};

@@ -1,4 +1,6 @@
-//! A data node: its folder, its sockets and its threads.
+//! A data node: its folder, its sockets and its threads. A tombstone that is refused, but for one
+//! of what is served already, ends the start as a segment file does: a config that says that an
+//! interval is empty is not half followed.
 ghost use Rattle.std.specs.Prelude.{◌≡◌, ◌≤◌, [], All, Some, Ok, length, IfOk, IfErr, IfSome, OnOk, map, string_bytes};
 ghost use Rattle.druid_shard.specs.Reply.{max_changes};
 ghost use Rattle.druid_changes.specs.Kept.{StandsFor};
@@ -217,12 +219,13 @@ fn first_state<F: Folder>(
     }
 }
 
-// A node that goes on from that state, with the segments of a folder, of which it knows the files.
+// A node that goes on from that state and counts a query on so many threads, with the segments of a folder, of which it knows the files.
 fn load_node<R: Wait + Clock, F: Folder, I: Incarnation>(
     rt: &R,
     alloc: Global,
     folder: &mut F,
     state: NodeState,
+    threads: usize,
     reporter: &mut Reporter,
 ) -> Result<LoadedNode<I>, StartFault>
     requires { state.history.incarnation ≡ I.number }
@@ -232,7 +235,7 @@ fn load_node<R: Wait + Clock, F: Folder, I: Incarnation>(
 {
     let mut seen = state.mark();
     let mut known = Known::new(alloc);
-    let node = DataNode::new(state);
+    let node = DataNode::new(state, threads);
     load_files(rt, alloc, &node, folder, &mut known, reporter, &mut seen)?;
     Ok(LoadedNode { node, known, seen })
 }
@@ -348,7 +351,8 @@ where
     let telemetry = Telemetry::new(alloc, config.name().as_str(), log)?;
     let meter = Arc::new(alloc, NodeMeter::new(alloc)?)?;
     let mut reporter = Reporter::new(alloc, telemetry.share()?, &meter)?;
-    let loaded: LoadedNode<I> = load_node(rt, alloc, folder, state, &mut reporter)?;
+    let threads = config.threads() as usize;
+    let loaded: LoadedNode<I> = load_node(rt, alloc, folder, state, threads, &mut reporter)?;
     let LoadedNode { node, known, seen } = loaded;
     let mut seen = seen;
     place_tombstones(rt, &node, config.tombstones(), &mut seen)?;
@@ -436,6 +440,12 @@ where
 /// segments whose files are gone. The device `D` is the one under the folder that it makes, and `L` the one under the folder that
 /// the thread makes at the same path: the call picks both. What happens to files and connections goes to the log, and where the config
 /// names a status address, a thread answers there.
+///
+/// # Errors
+///
+/// `BadFolder` or `Device`, by the first of its steps that fails: the incarnation, the files, the
+/// tombstones, the listener, the threads (tested). Leaves the folder as its calls did: the
+/// incarnation may have risen.
 pub fn start_node<
     R: Files<File = File>
         + Net<Listener = TcpListener, Stream = TcpStream>
@@ -465,6 +475,11 @@ where
 /// Starts a data node as `start_node` does, but that it listens and makes its folder its own before all else: so of two programs over
 /// one config the second is refused its address, and of two over one folder the second is refused the folder, before either raises
 /// an incarnation. The folder is its own while what comes of it, a `Loading` or an `EndOfLoads`, is there.
+///
+/// # Errors
+///
+/// `Device` of the listener or of the folder, which another node may have: nothing rose (tested);
+/// then those of `start_node`.
 pub fn start_owner<
     R: Files<File = File>
         + Net<Listener = TcpListener, Stream = TcpStream>

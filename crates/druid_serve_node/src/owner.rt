@@ -1,4 +1,6 @@
-//! Whose a folder is.
+//! Whose a folder is. A file for the lock would be one more that a copy of the folder takes along.
+//! That nobody but its node changes a folder is still a premise: the lock stops other nodes, and
+//! not hands.
 ghost use Rattle.std.specs.Prelude.{◌≡◌, IfErr};
 ghost use Rattle.druid_server.specs.declared.fault.ClusterFault.TheVariants.{Device};
 

@@ -1,4 +1,5 @@
-//! What a node tells of the files of its folder: lines of the log, and the numbers of what it holds.
+//! What a node tells of the files of its folder: lines of the log, and the numbers of what it
+//! holds.
 use druid_log::{Event, Level, Refusals, code_in};
 use druid_metrics::{NodeMeter, NodeState};
 use druid_node::{LoadedFile, NodeFault};
@@ -24,6 +25,10 @@ pub struct Reporter {
 
 impl Reporter {
     /// That of a node which holds nothing.
+    ///
+    /// # Errors
+    ///
+    /// Out of memory.
     pub fn new(
         alloc: Global,
         telemetry: Telemetry,
@@ -53,7 +58,7 @@ impl Reporter {
         self.tell(rt, &Event::Loaded { file: name });
     }
 
-    // A file was refused: it is told once for each fault, and not where memory runs out for it.
+    // A file was refused: it is logged once for each fault, and not where memory runs out for it.
     pub(crate) fn refuse<R: Wait + Clock>(&mut self, rt: &R, name: &str, fault: &NodeFault) {
         if self.telemetry.level() == Level::Off {
             return;

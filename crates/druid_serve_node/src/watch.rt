@@ -1,4 +1,6 @@
 //! A node that watches its folder: it loads the segment files that come, and drops those that go.
+//! It goes by names alone: a segment never changes, so a file is read once, and a look costs a
+//! listing.
 ghost use Rattle.std.specs.Prelude.{◌≡◌, ◌≢◌, List, ℕ, Err, IfErr, OnOk};
 ghost use Rattle.std.specs.List.{FoldsTo};
 ghost use Rattle.std.specs.declared.cmp.Ordering.TheVariants.{Greater};
@@ -100,8 +102,13 @@ impl Watch {
         tried
     }
 
-    /// Tries the segment files among these that are due at a look, one after another: one whose segment is loaded is passed over.
-    /// Where memory runs out for one it is passed over, and where it runs out for the list of them all are.
+    /// Tries the segment files among these that are due at a look, one after another: one whose
+    /// segment is loaded is passed over.
+    ///
+    /// # Errors
+    ///
+    /// Out of memory: a file that it runs out for is not tried, and where it runs out for the list
+    /// of those that are due none is. `seen` does not fall.
     pub fn try_due<R: Wait + Clock, F: Folder, I: Incarnation>(
         &mut self,
         rt: &R,
@@ -163,10 +170,15 @@ impl Watch {
         }
     }
 
-    /// A look at the folder: tries the segment files that are due, and then drops the segments whose files are gone. O1 where the
-    /// names of the files cannot be read, which the folder's device counts as a failure: then nothing is done. O9: then some of it may
-    /// be done, and a later look does the rest. What is refused of a file, or by the node, is no fault: the file is tried again at
-    /// later looks, after 1, 2, 4 .. looks and at most 64.
+    /// A look at the folder: tries the segment files that are due, and then drops the segments
+    /// whose files are gone. What is refused of a file, or by the node, is no fault: the file is
+    /// tried again at later looks, after 1, 2, 4 .. looks and at most 64.
+    ///
+    /// # Errors
+    ///
+    /// O1 where the names of the files cannot be read, which the folder's device counts as a
+    /// failure: nothing is done. O9: some of it may be done, and a later look does the rest. `seen`
+    /// does not fall.
     pub fn look<R: Wait + Clock, F: Folder, I: Incarnation>(
         &mut self,
         rt: &R,

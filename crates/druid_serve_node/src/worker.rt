@@ -15,12 +15,11 @@ use std::alloc::Global;
 use std::io::{BufRead, BufReader, BufWriter, Write};
 use std::net::{TcpListener, TcpStream};
 use std::sync::{Arc, Wait};
-use std::thread;
-use std::time::Clock;
+use std::thread::{self, Threads};
 
 // Answers a request from a state that is not older than what was seen, nor than what the loading thread has noted, and so never
 // from one before the loads of the start.
-fn serve_since<R: Wait, I: Incarnation, J: Begun, B: BufRead, W: Write>(
+fn serve_since<R: Wait + Threads, I: Incarnation, J: Begun, B: BufRead, W: Write>(
     rt: &R,
     node: &DataNode<I>,
     latest: &Latest<J>,
@@ -40,7 +39,7 @@ fn serve_since<R: Wait, I: Incarnation, J: Begun, B: BufRead, W: Write>(
 }
 
 // Answers a request and sends all of the answer, and gives the status that was written, if it was.
-fn send<R: Wait, I: Incarnation, J: Begun, B: BufRead, W: Write>(
+fn send<R: Wait + Threads, I: Incarnation, J: Begun, B: BufRead, W: Write>(
     rt: &R,
     node: &DataNode<I>,
     latest: &Latest<J>,
@@ -56,7 +55,7 @@ fn send<R: Wait, I: Incarnation, J: Begun, B: BufRead, W: Write>(
 }
 
 // Answers one connection, and gives the status that was written, if an answer was.
-fn answer<R: Wait + Clock, I: Incarnation, J: Begun>(
+fn answer<R: Host, I: Incarnation, J: Begun>(
     rt: &R,
     alloc: Global,
     node: &DataNode<I>,
@@ -85,7 +84,7 @@ fn answer<R: Wait + Clock, I: Incarnation, J: Begun>(
 }
 
 // Answers connections, and gives the mark of what was seen of the node by then.
-fn answer_connections<R: Wait + Clock, I: Incarnation, J: Begun>(
+fn answer_connections<R: Host, I: Incarnation, J: Begun>(
     rt: &R,
     alloc: Global,
     node: &DataNode<I>,
@@ -114,7 +113,7 @@ fn answer_connections<R: Wait + Clock, I: Incarnation, J: Begun>(
 // Answers the bytes of a request that a front thread read: the status of the answer, and its text. None where memory runs out before
 // the answer stands.
 #[tactic(auto, using(druid_front::proofs::AnswerLemmas::served_is_answer))]
-fn answer_bytes<R: Wait + Clock, I: Incarnation, J: Begun>(
+fn answer_bytes<R: Host, I: Incarnation, J: Begun>(
     rt: &R,
     alloc: Global,
     node: &DataNode<I>,
@@ -144,7 +143,7 @@ fn answer_bytes<R: Wait + Clock, I: Incarnation, J: Begun>(
 }
 
 // Answers the jobs of a front, and gives the mark of what was seen of the node by then.
-fn answer_front<R: Wait + Clock, I: Incarnation, J: Begun>(
+fn answer_front<R: Host, I: Incarnation, J: Begun>(
     rt: &R,
     alloc: Global,
     node: &DataNode<I>,
@@ -173,7 +172,7 @@ fn answer_front<R: Wait + Clock, I: Incarnation, J: Begun>(
 }
 
 // Answers what comes, and gives the mark of what was seen of the node by then.
-fn work<R: Wait + Clock, I: Incarnation, J: Begun>(
+fn work<R: Host, I: Incarnation, J: Begun>(
     rt: &R,
     alloc: Global,
     node: &DataNode<I>,

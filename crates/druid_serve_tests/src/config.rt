@@ -173,7 +173,7 @@ fn doubled_names(rt: HostRuntime) {
 }
 
 #[test]
-fn ample_memory(rt: HostRuntime) {
+fn a_config_at_its_limits(rt: HostRuntime) {
     let config = read_config(rt.alloc(), whole().as_bytes()).expect(&rt, "a config");
     assert!(rt;
         config.nodes().len() == 1 && config.brokers().len() == 1 && config.queries().len() == 1
@@ -209,7 +209,7 @@ fn refused_rests(rt: HostRuntime) {
     assert_reported(&rt, rt.alloc(), rows, "bad config");
 }
 
-// What is told of the rests of a config: those of syncers, those of its first node, and whether it ends.
+// What the rests of a config are: those of syncers, those of its first node, and whether it ends.
 fn rests_of(rt: &impl Abort, alloc: Global, text: &str) -> (Option<u64>, Option<u64>, bool) {
     let config = read_config(alloc, text.as_bytes()).expect(rt, "a config");
     let watch = config.nodes()[0].watch();
@@ -320,6 +320,43 @@ fn fronts(rt: HostRuntime) {
         "\"workers\":16,\"front\":256}",
     );
     assert!(rt; fronts_of(&rt, alloc, text.as_str()) == (0, 256));
+}
+
+// With threads of a node for one query.
+#[test]
+fn taken_threads(rt: HostRuntime) {
+    let rows = "\"workers\":1} = \"workers\":1,\"threads\":1}
+\"workers\":1} = \"workers\":1,\"threads\":16}
+\"workers\":16} = \"workers\":16,\"threads\":0}";
+    assert_reported(&rt, rt.alloc(), rows, "taken");
+}
+
+#[test]
+fn refused_threads(rt: HostRuntime) {
+    let rows = "\"workers\":1} = \"workers\":1,\"threads\":0}
+\"workers\":1} = \"workers\":1,\"threads\":17}
+\"workers\":1} = \"workers\":1,\"threads\":null}
+\"workers\":1} = \"workers\":1,\"threads\":\"4\"}";
+    assert_reported(&rt, rt.alloc(), rows, "bad config");
+}
+
+// On how many threads the first node of a config counts one query.
+fn threads_of(rt: &impl Abort, alloc: Global, text: &str) -> u16 {
+    let config = read_config(alloc, text.as_bytes()).expect(rt, "a config");
+    config.nodes()[0].threads()
+}
+
+#[test]
+fn threads(rt: HostRuntime) {
+    let alloc = rt.alloc();
+    assert!(rt; threads_of(&rt, alloc, whole()) == 1);
+    let text = changed(
+        &rt,
+        alloc,
+        "\"workers\":1}",
+        "\"workers\":1,\"threads\":16}",
+    );
+    assert!(rt; threads_of(&rt, alloc, text.as_str()) == 16);
 }
 
 // Asserts what is reported of the whole config with such a key, and of each address in the place of that of its node, of where that

@@ -87,6 +87,8 @@ fn fields_of_statuses(rt: HostRuntime) {
 \"workers\":16} = \"workers\":17,\"status\":null} -> brokers[0].workers: not a number from 1 to 16
 \"workers\":1} = \"workers\":1,\"front\":257} -> nodes[0].front: not a number from 0 to 256
 \"workers\":1} = \"workers\":1,\"front\":257,\"status\":0} -> nodes[0].status: not 127.0.0.1: and a port from 1 to 65535
+\"workers\":1} = \"workers\":1,\"threads\":17} -> nodes[0].threads: not a number from 1 to 16
+\"workers\":1} = \"workers\":1,\"threads\":0,\"front\":257} -> nodes[0].front: not a number from 0 to 256
 \"workers\":16} = \"workers\":16,\"front\":null} -> brokers[0].front: not a number from 0 to 256
 \"workers\":16} = \"workers\":16,\"front\":-1,\"status\":0} -> brokers[0].status: not 127.0.0.1: and a port from 1 to 65535
 \"kept\" = \"patience\":30000,\"kept\" -> ";
@@ -105,6 +107,7 @@ fn fields_of_a_network(rt: HostRuntime) {
 \"workers\":1} = \"workers\":1,\"listen\":\"0.0.0.0:1\"} -> nodes[0].listen: not 127.0.0.1: and a port from 1 to 65535
 \"workers\":16} = \"workers\":16,\"listen\":\"0.0.0.0:1\"} -> brokers[0].listen: not 127.0.0.1: and a port from 1 to 65535
 \"workers\":1} = \"workers\":1,\"listen\":null,\"front\":257} -> nodes[0].front: not a number from 0 to 256
+\"workers\":1} = \"workers\":1,\"listen\":null,\"threads\":17} -> nodes[0].listen: not 127.0.0.1: and a port from 1 to 65535
 \"workers\":16} = \"workers\":16,\"listen\":\"\",\"front\":257} -> brokers[0].front: not a number from 0 to 256
 \"workers\":1} = \"workers\":1,\"listen\":\"127.0.0.1:1\"} -> 
 \"workers\":16} = \"workers\":16,\"listen\":\"127.0.0.1:1\"} -> ";

@@ -101,6 +101,13 @@ pub(crate) fn fewer_bytes(rt: &impl Abort, alloc: Global) -> Vec<u8> {
     )
 }
 
+/// The bytes of a file that has the identifier of the newer segment, and a row at each end of its hours.
+pub(crate) fn edge_bytes(rt: &impl Abort, alloc: Global) -> Vec<u8> {
+    let hours = "2024-01-01T10:00/2024-01-01T12:00";
+    let rows = "2024-01-01T10:00 2024-01-01T11:59:59.999";
+    bytes_of(rt, alloc, &segment(rt, alloc, "v2", hours, rows))
+}
+
 /// The file of a segment of another day, whose rows all have the same text of a thousand bytes.
 pub(crate) const LONG_FILE: &str = "wiki_2024-02-01T00:00:00.000Z_2024-02-02T00:00:00.000Z_v1.seg";
 
@@ -160,21 +167,31 @@ pub(crate) fn fresh_folder<R: Host>(rt: &R, alloc: Global, name: &str) -> String
     panic!(rt; "no folder")
 }
 
-// A segment without rows, the part of that number of its day.
+// A segment of one row, the part of that number of its day.
 fn part(rt: &impl Abort, alloc: Global, number: u16) -> Segment {
     let descriptor = descriptor(rt, alloc, "v1", "2024-01-01/2024-01-02", number);
     let schema = Schema::new(Vec::new(alloc), Vec::new(alloc));
-    Segment::new(alloc, descriptor, schema, Vec::new(alloc)).expect(rt, "a segment")
+    let rows = vec![in alloc; row(rt, alloc, "2024-01-01")].expect(rt, "memory");
+    Segment::new(alloc, descriptor, schema, rows).expect(rt, "a segment")
+}
+
+/// Puts the file of the part of that number into a folder.
+pub(crate) fn put_part<R: Files + Abort>(rt: &R, alloc: Global, folder: &str, number: u16) {
+    let segment = part(rt, alloc, number);
+    let id = segment.descriptor().id().text(alloc).expect(rt, "memory");
+    let name = format!(in alloc; "{id}.seg").expect(rt, "memory");
+    put(
+        rt,
+        alloc,
+        folder,
+        name.as_str(),
+        &bytes_of(rt, alloc, &segment),
+    );
 }
 
 /// Puts the files of so many parts of a day into a folder.
 pub(crate) fn put_parts<R: Files + Abort>(rt: &R, alloc: Global, folder: &str, count: u16) {
     for number in 0..count {
-        let segment = part(rt, alloc, number);
-        let mut bytes = Vec::new(alloc);
-        write_segment(alloc, &segment, &mut bytes).expect(rt, "a file");
-        let id = segment.descriptor().id().text(alloc).expect(rt, "memory");
-        let name = format!(in alloc; "{id}.seg").expect(rt, "memory");
-        put(rt, alloc, folder, name.as_str(), &bytes);
+        put_part(rt, alloc, folder, number);
     }
 }

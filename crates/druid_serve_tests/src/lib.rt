@@ -19,7 +19,13 @@ mod live;
 #[cfg(test)]
 mod loading;
 #[cfg(test)]
+mod many_nodes;
+#[cfg(test)]
 mod operating;
+#[cfg(test)]
+mod oversize;
+#[cfg(test)]
+mod relay;
 #[cfg(test)]
 mod replicas;
 #[cfg(test)]

@@ -9,6 +9,7 @@ use std::alloc::Global;
 use std::process::Abort;
 use std::str;
 use std::sync::Wait;
+use std::thread::Threads;
 
 // The incarnation of the node here.
 struct First;
@@ -47,11 +48,11 @@ fn names(rt: &impl Abort, alloc: Global) -> Vec<String> {
 
 // A node without segments.
 fn node(rt: &impl Abort, alloc: Global) -> DataNode<First> {
-    DataNode::new(NodeState::new(alloc, 1, 10).expect(rt, "a node"))
+    DataNode::new(NodeState::new(alloc, 1, 10).expect(rt, "a node"), 1)
 }
 
 // What a node tells of its segments.
-fn reported<R: Wait + Abort>(rt: &R, alloc: Global, node: &DataNode<First>) -> String {
+fn reported<R: Wait + Threads + Abort>(rt: &R, alloc: Global, node: &DataNode<First>) -> String {
     let mut reader = b"GET /druid-internal/v1/segments HTTP/1.1\r\n\r\n".as_slice();
     let mut written = Vec::new(alloc);
     let served = node.serve_one(rt, &mut reader, &mut written, &mut Mark::never());

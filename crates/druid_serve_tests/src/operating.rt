@@ -153,27 +153,34 @@ fn assert_answers<R: Host + Net<Listener = TcpListener, Stream = TcpStream>>(
     }
 }
 
-#[test]
-fn status_addresses(rt: HostRuntime) {
-    let alloc = rt.alloc();
-    let place = place_of(&rt, alloc, "status");
-    let (node, broker) = (listener(&rt), listener(&rt));
-    let (node_at, broker_at) = (
-        address_of(&rt, alloc, &node),
-        address_of(&rt, alloc, &broker),
-    );
+// Serves a place for ever, on a thread of its own, and gives the status addresses of its first node and of its first broker.
+fn start_with_status<R: Host + Net<Listener = TcpListener, Stream = TcpStream>>(
+    rt: &R,
+    alloc: Global,
+    place: &Place,
+) -> (String, String) {
+    let (node, broker) = (listener(rt), listener(rt));
+    let (node_at, broker_at) = (address_of(rt, alloc, &node), address_of(rt, alloc, &broker));
     drop((node, broker));
-    let config = config_with_status(&rt, alloc, &place, node_at.as_str(), broker_at.as_str());
-    let log = quiet_log(&rt, alloc);
+    let config = config_with_status(rt, alloc, place, node_at.as_str(), broker_at.as_str());
+    let log = quiet_log(rt, alloc);
     start_part(
-        &rt,
+        rt,
         alloc,
         config.as_str(),
         "n0,n1,broker:0,broker:1",
         log,
         place.broker.as_str(),
     );
-    wait_for(&rt, alloc, place.broker.as_str(), ASK, NEWER);
+    wait_for(rt, alloc, place.broker.as_str(), ASK, NEWER);
+    (node_at, broker_at)
+}
+
+#[test]
+fn status_addresses(rt: HostRuntime) {
+    let alloc = rt.alloc();
+    let place = place_of(&rt, alloc, "status");
+    let (node_at, broker_at) = start_with_status(&rt, alloc, &place);
     let of_both = [
         ("GET /status/health", "200", "true"),
         ("POST /status/health", "405", "Method"),
@@ -227,7 +234,44 @@ fn status_addresses(rt: HostRuntime) {
     clear(&rt, &place);
 }
 
-// The files of the start and of `loads` are told, the one that is not there with its fault.
+// Whether a server does not answer within a fifth of a second.
+fn hangs<R: Host + Net<Listener = TcpListener, Stream = TcpStream>>(
+    rt: &R,
+    alloc: Global,
+    address: &str,
+) -> bool {
+    let mut link = link_to(rt, alloc, address);
+    link.hasten(Some(200));
+    link.exchange(alloc, HEALTH).is_err()
+}
+
+// Clients that keep silent hold all workers of a node and of a broker, so that nobody else is answered there: at their status addresses
+// everybody is.
+#[test]
+fn status_while_workers_hang(rt: HostRuntime) {
+    let alloc = rt.alloc();
+    let place = place_of(&rt, alloc, "hanging");
+    let (node_at, broker_at) = start_with_status(&rt, alloc, &place);
+    let held = [&place.first, &place.first, &place.broker, &place.broker];
+    let silent = held.map(|address| TcpStream::connect(&rt, address.as_str()).expect(
+        &rt,
+        "a connection",
+    ));
+    assert!(&rt; hangs(&rt, alloc, place.first.as_str()), "the node");
+    assert!(&rt; hangs(&rt, alloc, place.broker.as_str()), "the broker");
+    let health = ("GET /status/health", "200", "true");
+    let synced = (
+        "GET /druid/broker/v1/loadstatus",
+        "200",
+        "{\"inventoryInitialized\":true}",
+    );
+    assert_answers(&rt, alloc, node_at.as_str(), &[health]);
+    assert_answers(&rt, alloc, broker_at.as_str(), &[health, synced]);
+    drop(silent);
+    clear(&rt, &place);
+}
+
+// The files of the start and of `loads` are logged, the one that is not there with its fault.
 #[test]
 fn logged_files(rt: HostRuntime) {
     let alloc = rt.alloc();

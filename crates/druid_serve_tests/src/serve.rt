@@ -1,6 +1,6 @@
 //! Clusters that are served.
 use crate::folders::{
-    LATER_FILE, NEWER_FILE, OLDER_FILE, fewer_bytes, file_bytes, fresh_folder, put,
+    LATER_FILE, NEWER_FILE, OLDER_FILE, edge_bytes, fewer_bytes, file_bytes, fresh_folder, put,
 };
 use crate::host::{Host, address_of, environment, listener};
 use druid_link::{Link, TcpLink};
@@ -67,8 +67,8 @@ pub(crate) fn place_of<R: Host + Net<Listener = TcpListener, Stream = TcpStream>
     }
 }
 
-// The row's query.
-const QUERY: &str =
+/// The row's query.
+pub(crate) const QUERY: &str =
     "{\"aggregations\":[{\"name\":\"n\",\"type\":\"count\"}],\"dataSource\":\"wiki\",\"granularity\":\"all\",\"intervals\":\"2024-01-01/2024-01-02\",\"queryType\":\"timeseries\"}";
 
 // The same as a member of a config.
@@ -310,10 +310,27 @@ fn full_output(rt: HostRuntime) {
     }
 }
 
+// A config of two nodes and one broker, to which the query is posted after one turn.
+fn one_broker(rt: &impl Abort, alloc: Global, place: &Place) -> String {
+    let (first, second, broker) = (&place.first, &place.second, &place.broker);
+    let (older, newer) = (&place.older, &place.newer);
+    format!(in alloc;
+        "{{\"brokers\":[{{\"address\":\"{broker}\",\"workers\":1}}],\"connections\":0,\"kept\":10,\"nodes\":[{{\"address\":\"{first}\",\"folder\":\"{older}\",\"loads\":[],\"name\":\"n0\",\"workers\":1}},{{\"address\":\"{second}\",\"folder\":\"{newer}\",\"loads\":[],\"name\":\"n1\",\"workers\":1}}],\"queries\":[{{\"broker\":0,\"query\":{QUERY}}}],\"turns\":1}}"
+    ).expect(rt, "memory")
+}
+
+// What is reported where both segments have a row at each end of the newer one's hours, which count once, and the older one a row on
+// either side of them.
+const EDGES: &str = "0\n200\n[{\"result\":{\"n\":4},\"timestamp\":\"2024-01-01T00:00:00.000Z\"}]\n";
+
 #[test]
-fn ample_memory(rt: HostRuntime) {
-    let place = place_of(&rt, rt.alloc(), "memory");
-    assert_served(&rt, served_at(&rt, rt.alloc(), &place));
+fn no_row_counts_twice(rt: HostRuntime) {
+    let alloc = rt.alloc();
+    let place = place_of(&rt, alloc, "edges");
+    let edges = edge_bytes(&rt, alloc);
+    put(&rt, alloc, place.newer.as_str(), NEWER_FILE, &edges);
+    let text = one_broker(&rt, alloc, &place);
+    assert_reported(&rt, served(&rt, alloc, text.as_str()), EDGES);
     clear(&rt, &place);
 }
 
@@ -407,10 +424,7 @@ fn keep_asking<L: Link, C: Clock>(
             return answered;
         }
         for link in links.iter_mut() {
-            if link
-                .exchange(alloc, b"GET /status/health HTTP/1.1\r\n\r\n")
-                .is_ok()
-            {
+            if is_there(alloc, link) {
                 answered = answered.saturating_add(1);
             }
         }
@@ -419,22 +433,34 @@ fn keep_asking<L: Link, C: Clock>(
     answered
 }
 
-// Asks the first broker alone for a while, and then all until the other thread is done. Whether it was not done before.
+// Whether a server says that it is there.
+fn is_there<L: Link>(alloc: Global, link: &mut L) -> bool {
+    link.exchange(alloc, b"GET /status/health HTTP/1.1\r\n\r\n")
+        .is_ok()
+}
+
+// Asks the first broker alone until it answers and for a while after, and then all until the other thread is done. Whether it
+// answered, and the other thread was not done before all were asked.
 fn ask_first_alone<L: Link, C: Clock>(
     clock: &C,
     alloc: Global,
     links: &mut [L],
     done: &AtomicBool,
 ) -> bool {
+    let mut answered = false;
     if let Some(first) = links.first_mut() {
-        for _ in 0..100 {
-            let _ = first.exchange(alloc, b"GET /status/health HTTP/1.1\r\n\r\n");
+        for _ in 0..10_000 {
+            answered = is_there(alloc, first);
+            if answered {
+                break;
+            }
             thread::sleep(clock, Duration::from_millis(2));
         }
     }
+    thread::sleep(clock, Duration::from_millis(200));
     let waited = !done.load(Ordering::SeqCst);
     keep_asking(clock, alloc, links, done);
-    waited
+    answered && waited
 }
 
 // A link to each broker.
@@ -541,43 +567,51 @@ fn status_of<R: Host + Net<Listener = TcpListener, Stream = TcpStream>>(
     serve_config(rt, alloc, bytes, &environment, &mut out, &mut errors).status
 }
 
-// Asks each broker five times, once connections are counted.
-fn ask_five<L: Link, C: Clock>(clock: &C, alloc: Global, links: &mut [L], flushed: &AtomicBool) {
+// Asks each broker five times, once connections are counted, and gives how often one answered.
+fn ask_five<L: Link, C: Clock>(
+    clock: &C,
+    alloc: Global,
+    links: &mut [L],
+    flushed: &AtomicBool,
+) -> u64 {
     for _ in 0..10_000 {
         if flushed.load(Ordering::SeqCst) {
             break;
         }
         thread::sleep(clock, Duration::from_millis(2));
     }
+    let mut answered = 0u64;
     for _ in 0..5 {
         for link in links.iter_mut() {
-            let _ = link.exchange(alloc, b"GET /status/health HTTP/1.1\r\n\r\n");
+            if is_there(alloc, link) {
+                answered = answered.saturating_add(1);
+            }
         }
     }
+    answered
 }
 
-// The status with which a cluster ends, each of whose brokers was asked five times.
+// The status with which a cluster ends, each of whose brokers was asked five times, and how many answers there were.
 fn asked_five<R: Host + Net<Listener = TcpListener, Stream = TcpStream>>(
     rt: &R,
     alloc: Global,
     config: &str,
     place: &Place,
-) -> u8 {
+) -> (u8, u64) {
     let flushed = AtomicBool::new(false);
     let mut links = links_to(rt, alloc, place);
-    let (status, ()) = join(
+    join(
         rt,
         || status_of(rt, alloc, config, &flushed),
         || ask_five(rt, alloc, &mut links, &flushed),
-    );
-    status
+    )
 }
 
-// As many connections as the config says are enough.
+// As many connections as the config says are answered, and enough.
 #[test]
 fn five_connections(rt: HostRuntime) {
     let place = place_of(&rt, rt.alloc(), "five");
     let text = config(&rt, rt.alloc(), &place, 5);
-    assert!(rt; asked_five(&rt, rt.alloc(), text.as_str(), &place) == 0);
+    assert!(rt; asked_five(&rt, rt.alloc(), text.as_str(), &place) == (0, 10));
     clear(&rt, &place);
 }

@@ -130,7 +130,7 @@ fn assert_starts<R: Host + Net<Listener = TcpListener, Stream = TcpStream>>(
 }
 
 #[test]
-fn ample_memory(rt: HostRuntime) {
+fn nodes_of_many_files(rt: HostRuntime) {
     for count in [0u16, 1, 2, 3, 5, 17, 65] {
         assert_starts(&rt, rt.alloc(), count, 1, 1000);
     }

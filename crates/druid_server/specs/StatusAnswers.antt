@@ -9,21 +9,21 @@ use Rattle.druid_metrics.specs.declared.route.Route.TheVariants.{Health, Metrics
 use Rattle.druid_wire.specs.Messages.{IsRequest}
 use Rattle.druid_wire.specs.Served.{Tells, Gets, IsOutOfMemory, IsSent, IsRefused}
 use Rattle.druid_server.specs.declared.status.StatusAnswer.{StatusAnswer}
-use Rattle.druid_server.specs.declared.status.StatusAnswer.TheVariants.{Page, Told}
+use Rattle.druid_server.specs.declared.status.StatusAnswer.TheVariants.{Page, Short}
 
 abbrev pub loaded_text : Bool → List ℕ
 loaded_text true = codes "{\"inventoryInitialized\":true}"
 loaded_text false = codes "{\"inventoryInitialized\":false}"
 
 -- an answer as servers give it everywhere
-abbrev pub IsTold : (ℕ → List ℕ → Type 0) → StatusAnswer → Type 0
-IsTold P (Told response) = P response.status response.body
-IsTold P (Page text) = ⊥
+abbrev pub IsShort : (ℕ → List ℕ → Type 0) → StatusAnswer → Type 0
+IsShort P (Short response) = P response.status response.body
+IsShort P (Page text) = ⊥
 
 -- the metrics of a server, or none where memory runs out
 abbrev pub IsPage : StatusAnswer → Type 0
 IsPage (Page text) = ⊤
-IsPage (Told response) = IsOutOfMemory response.status response.body
+IsPage (Short response) = IsOutOfMemory response.status response.body
 
 abbrev pub LeadsNowhere : ℕ → List ℕ → Type 0
 LeadsNowhere status body = Tells 404 (codes "{\"error\":\"NoRoute\"}") status body
@@ -35,27 +35,27 @@ TellsLoad status body = (loaded : Bool) × Tells 200 (loaded_text loaded) status
 -- metrics, where the method is the one that gets them
 abbrev pub AnswersMetrics : Bool → StatusAnswer → Type 0
 AnswersMetrics true answer = IsPage answer
-AnswersMetrics false answer = IsTold (Tells 405 (codes "{\"error\":\"Method\"}")) answer
+AnswersMetrics false answer = IsShort (Tells 405 (codes "{\"error\":\"Method\"}")) answer
 
 -- the load status, of a server that follows nodes
 abbrev pub AnswersLoad : Bool → RequestValue → StatusAnswer → Type 0
-AnswersLoad true request answer = IsTold (Gets request TellsLoad) answer
-AnswersLoad false request answer = IsTold LeadsNowhere answer
+AnswersLoad true request answer = IsShort (Gets request TellsLoad) answer
+AnswersLoad false request answer = IsShort LeadsNowhere answer
 
 -- what is answered at a route
 abbrev pub AnswersStatus : Bool → Route → RequestValue → StatusAnswer → Type 0
-AnswersStatus follows Health request answer = IsTold (Gets request (Tells 200 (codes "true"))) answer
+AnswersStatus follows Health request answer = IsShort (Gets request (Tells 200 (codes "true"))) answer
 AnswersStatus follows Metrics request answer = AnswersMetrics (bytes_eq request.method (codes "GET")) answer
 AnswersStatus follows LoadStatus request answer = AnswersLoad follows request answer
-AnswersStatus follows Query request answer = IsTold LeadsNowhere answer
-AnswersStatus follows Datasources request answer = IsTold LeadsNowhere answer
-AnswersStatus follows Segments request answer = IsTold LeadsNowhere answer
-AnswersStatus follows Inventory request answer = IsTold LeadsNowhere answer
-AnswersStatus follows Other request answer = IsTold LeadsNowhere answer
+AnswersStatus follows Query request answer = IsShort LeadsNowhere answer
+AnswersStatus follows Datasources request answer = IsShort LeadsNowhere answer
+AnswersStatus follows Segments request answer = IsShort LeadsNowhere answer
+AnswersStatus follows Inventory request answer = IsShort LeadsNowhere answer
+AnswersStatus follows Other request answer = IsShort LeadsNowhere answer
 
 -- the answer was written, with this status
 abbrev pub IsWritten : Option (List ℕ) → Option (List ℕ) → StatusAnswer → ℕ → Type 0
-IsWritten old new (Told response) sent = IsSent old new response.status response.body sent
+IsWritten old new (Short response) sent = IsSent old new response.status response.body sent
 IsWritten old new (Page text) sent = Appends old new (response_text text.items) × (sent ≡ 200)
 
 -- a request was read and its answer written
@@ -66,7 +66,7 @@ pub record IsAnsweredThere (follows : Bool) (before after old new : Option (List
   pub answers : AnswersStatus follows (route_at (path_of request.target)) request answer
   pub written : IsWritten old new answer sent
 
--- no request was read, and that was told
+-- no request was read, and that was answered
 pub record IsRefusedThere (before old new : Option (List ℕ)) (sent : ℕ) : Type 0 where
   pub status : ℕ
   pub body : List ℕ

@@ -73,8 +73,13 @@ fn print<W: Write>(answer: &Result<Vec<u8>, WireFault>, out: &mut W) -> io::Resu
     }
 }
 
-/// Posts a query to the broker at an address, and prints the answer: its status and its body, or the number of its fault and
-/// an empty line. An error where it cannot be printed, or memory runs out for the address.
+/// Posts a query to the broker at an address, and prints the answer: its status and its body, or
+/// the number of its fault and an empty line.
+///
+/// # Errors
+///
+/// The writer's error, or out of memory for the address. Some of the answer may be written (no
+/// clause).
 pub fn ask<R: Net + Clock + Copy, W: Write>(
     rt: &R,
     alloc: Global,

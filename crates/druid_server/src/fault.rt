@@ -1,4 +1,6 @@
-//! Why a data node, or anything else of a cluster, does not start.
+//! Why a data node, or anything else of a cluster, does not start. Brokers, sockets and threads
+//! fail by `DeviceFailed`, so that the start of a data node alone calls a folder bad, and the
+//! reader of a config alone a config.
 ghost use Rattle.std.specs.Prelude.{◌≡◌, ⊤, Some, IfSome};
 ghost use Rattle.druid_server.specs.Faults.{of_store, of_node, NamesFile};
 ghost use Rattle.druid_server.specs.declared.fault.ClusterFault.TheVariants.{Device};

@@ -1,4 +1,5 @@
-//! The front threads of a server, where it has some: they wait for its clients, and its workers answer jobs.
+//! The front threads of a server, where it has some: they wait for its clients, and its workers
+//! answer jobs.
 ghost use Rattle.std.specs.Prelude.{◌≡◌, nat_le, IfOk};
 ghost use Rattle.druid_server.specs.Sources.{has_front};
 
@@ -98,6 +99,11 @@ pub enum Source {
 impl Source {
     /// The source of a server's workers: its listener where it has no front threads, and else a front of so many, which are started
     /// and count at the gate the connections that they answered.
+    ///
+    /// # Errors
+    ///
+    /// `DeviceFailed`: a thread, or memory. Threads that were started stay, and no connection is
+    /// accepted (tested).
     pub fn open<R: Wait + Threads + Clock + Copy + Send + Sync + 'static>(
         rt: &R,
         alloc: Global,
@@ -115,6 +121,10 @@ impl Source {
     }
 
     /// The same, for another thread.
+    ///
+    /// # Errors
+    ///
+    /// Out of memory.
     pub fn share(&self) -> Result<Source, AllocError>
         ensures { IfOk result (λ source. has_front source ≡ has_front self.now) }
     {

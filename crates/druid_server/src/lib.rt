@@ -1,4 +1,5 @@
-//! What the servers of a cluster share: sockets and those who connect to them, why a start failed, and the queries of a config.
+//! What the servers of a cluster share: sockets and those who connect to them, why a start failed,
+//! and the queries of a config.
 #![tactic(auto)]
 
 mod asking;

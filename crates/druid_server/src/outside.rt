@@ -1,4 +1,5 @@
-//! What comes from outside: sockets, and those who connect to them.
+//! What comes from outside: sockets, and those who connect to them. That a worker rests and goes on
+//! where accepting fails is read in the code alone: over loopback it does not fail.
 ghost use Rattle.std.specs.Prelude.{List};
 ghost use Rattle.std.specs.List.{FoldsTo};
 
@@ -17,6 +18,10 @@ pub const PEER_SECONDS: u64 = 30;
 const REST_MILLISECONDS: u64 = 10;
 
 /// A listener at an address.
+///
+/// # Errors
+///
+/// `DeviceFailed`, also where the text is no address.
 pub fn listen<R: Net<Listener = TcpListener, Stream = TcpStream>>(
     rt: &R,
     address: &str,
@@ -36,7 +41,11 @@ pub(crate) fn limit_to(stream: &TcpStream, limit: Duration) -> bool {
     stream.set_read_timeout(limit).is_ok() && stream.set_write_timeout(limit).is_ok()
 }
 
-/// Limits how long a connection waits, and tells whether that could be done.
+/// Limits how long a connection waits.
+///
+/// # Errors
+///
+/// False where that cannot be done.
 pub fn limit(stream: &TcpStream) -> bool {
     limit_to(stream, Duration::from_secs(PEER_SECONDS))
 }

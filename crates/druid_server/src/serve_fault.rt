@@ -1,3 +1,4 @@
+//! Why a cluster is not served, as it is reported.
 ghost use Rattle.std.specs.Prelude.{◌≡◌, Some};
 ghost use Rattle.druid_server.specs.Ends.{of_cluster, of_config, fault_text};
 

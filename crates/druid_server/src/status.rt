@@ -6,7 +6,7 @@ ghost use Rattle.druid_metrics.specs.Routes.{route_at};
 ghost use Rattle.druid_wire.specs.Served.{Gets, Tells};
 ghost use Rattle.druid_metrics.specs.Response.{response_text};
 ghost use Rattle.druid_server.specs.StatusAnswers.{AnswersLoad, AnswersMetrics, AnswersStatus, IsAnsweredThere, IsPage, IsRefusedThere, IsWritten, TellsLoad, loaded_text};
-ghost use Rattle.druid_server.specs.declared.status.StatusAnswer.TheVariants.{Told};
+ghost use Rattle.druid_server.specs.declared.status.StatusAnswer.TheVariants.{Short};
 
 use crate::fault::DeviceFailed;
 use crate::outside::{answer_each, limit_to};
@@ -35,6 +35,10 @@ pub trait Status {
     ghost follows: { Bool };
 
     /// Its metrics, in the text form that Prometheus reads.
+    ///
+    /// # Errors
+    ///
+    /// Out of memory.
     fn metrics(&self, alloc: Global) -> Result<Vec<u8>, AllocError>;
 
     /// Whether each node that it follows was synced; None where it follows none.
@@ -46,7 +50,7 @@ pub trait Status {
 #[derive(Drop)]
 pub enum StatusAnswer {
     /// As servers answer everywhere.
-    Told(Response),
+    Short(Response),
     /// A page of metrics.
     Page(Vec<u8>),
 }
@@ -78,7 +82,7 @@ fn page_of<S: Status>(alloc: Global, status: &S) -> StatusAnswer
 {
     match status.metrics(alloc) {
         Ok(page) => StatusAnswer::Page(page),
-        Err(_) => StatusAnswer::Told(Response::out_of_memory()),
+        Err(_) => StatusAnswer::Short(Response::out_of_memory()),
     }
 }
 
@@ -87,14 +91,14 @@ fn answer_metrics<S: Status>(alloc: Global, request: &Request, status: &S) -> St
     ensures { AnswersMetrics (bytes_eq request.now.method (codes "GET")) result }
 {
     if !request.has_method("GET") {
-        return StatusAnswer::Told(Response::other_method());
+        return StatusAnswer::Short(Response::other_method());
     }
     page_of(alloc, status)
 }
 
 // The answer to a request at the route of the load status.
 fn answer_loaded<S: Status>(request: &Request, status: &S) -> Response
-    ensures { AnswersLoad S.follows request.now (Told result) }
+    ensures { AnswersLoad S.follows request.now (Short result) }
 {
     match status.is_loaded() {
         Some(loaded) => answer_load(request, loaded),
@@ -112,11 +116,11 @@ fn answer_route<S: Status>(
     ensures { AnswersStatus S.follows route request.now result }
 {
     match route {
-        Route::Health => StatusAnswer::Told(Response::health(request)),
+        Route::Health => StatusAnswer::Short(Response::health(request)),
         Route::Metrics => answer_metrics(alloc, request, status),
-        Route::LoadStatus => StatusAnswer::Told(answer_loaded(request, status)),
+        Route::LoadStatus => StatusAnswer::Short(answer_loaded(request, status)),
         Route::Query | Route::Datasources | Route::Segments | Route::Inventory | Route::Other =>
-            StatusAnswer::Told(Response::no_route()),
+            StatusAnswer::Short(Response::no_route()),
     }
 }
 
@@ -150,13 +154,18 @@ fn send_status<W: Write>(
     ensures { IfOk result (IsWritten (W.contents writer.old) (W.contents writer.new) answer.now) }
 {
     match answer {
-        StatusAnswer::Told(response) => send_response(response, writer),
+        StatusAnswer::Short(response) => send_response(response, writer),
         StatusAnswer::Page(page) => send_page(alloc, page, writer),
     }
 }
 
-/// Reads one request of a status address and writes the answer, and gives the status that was written. Where no request was read,
-/// X4 to X7 are answered 400 with their number. Nothing is flushed.
+/// Reads one request of a status address and writes the answer, and gives the status that was
+/// written. Where no request was read, X4 to X7 are answered 400 with their number. Nothing is
+/// flushed.
+///
+/// # Errors
+///
+/// X1, X2 or X9 where no request was read; X3 or X9 of the writer (no clause).
 pub fn serve_status_one<S: Status, B: BufRead, W: Write>(
     alloc: Global,
     status: &S,
@@ -189,6 +198,10 @@ fn answer<S: Status>(alloc: Global, status: &S, stream: &TcpStream) -> Option<u1
 }
 
 /// Starts a thread that answers at a status address for as long as connections come.
+///
+/// # Errors
+///
+/// `DeviceFailed`: no thread.
 pub fn start_status<
     R: Wait + Threads + Clock + Copy + Send + Sync + 'static,
     S: Status + Drop + Send + 'static,

@@ -49,6 +49,10 @@ fn micros_since<C: Clock>(clock: &C, since: &Option<Instant>) -> u64 {
 
 impl Telemetry {
     /// That of a server of that name, which has counted nothing, over a log.
+    ///
+    /// # Errors
+    ///
+    /// Out of memory.
     pub fn new(alloc: Global, name: &str, log: &Arc<Log, Global>) -> Result<Telemetry, AllocError>
         ensures { IfOk result (λ telemetry. string_bytes telemetry.name ≡ name.now) }
     {
@@ -60,6 +64,10 @@ impl Telemetry {
     }
 
     /// The same, for another thread.
+    ///
+    /// # Errors
+    ///
+    /// Out of memory.
     pub fn share(&self) -> Result<Telemetry, AllocError>
         ensures { IfOk result (λ telemetry. string_bytes telemetry.name ≡ string_bytes self.now.name) }
     {
@@ -83,6 +91,10 @@ impl Telemetry {
     }
 
     /// What was counted so far.
+    ///
+    /// # Errors
+    ///
+    /// Out of memory.
     pub fn read(&self, alloc: Global) -> Result<Readings, AllocError> {
         self.meter.read(alloc)
     }
@@ -92,8 +104,13 @@ impl Telemetry {
         self.log.tell(rt, alloc, self.name.as_str(), event);
     }
 
-    /// Counts a connection, waits for its first bytes, and notes when they came and what they ask for. They stay unread. None where the
-    /// reader fails before they come, as where the client keeps silent: that is counted as one that was not answered.
+    /// Counts a connection, waits for its first bytes, and notes when they came and what they ask
+    /// for. They stay unread.
+    ///
+    /// # Errors
+    ///
+    /// None where the reader fails before they come, as where the client keeps silent: that is
+    /// counted as one that was not answered.
     pub fn take<C: Clock, B: BufRead>(&self, clock: &C, reader: &mut B) -> Option<Taken> {
         self.meter.take();
         match reader.fill_buf() {

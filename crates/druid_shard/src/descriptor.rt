@@ -1,3 +1,4 @@
+//! What a node announces of a segment.
 ghost use Rattle.std.specs.Prelude.{◌≡◌, ◌≤◌, ◌<◌, ◌↔◌, Some, refl, false, true, IsTrue, SomeIff, IfSome};
 ghost use Rattle.druid_shard.specs.Described.{IsDescribed, same_described, described_cmp, max_core};
 ghost use Rattle.druid_shard.specs.Orders as orders;
@@ -29,6 +30,10 @@ impl Model for Shard {
 }
 
 impl Shard {
+    /// That partition of a chunk which has so many core partitions.
+    ///
+    /// # Errors
+    ///
     /// None where there are more than 32,768 core partitions.
     pub fn new(partition: u16, core: u16) -> Option<Shard>
         ensures { SomeIff result (core ≤ max_core) (record { partition = partition; core = core }) }
@@ -93,7 +98,11 @@ impl Clone for Descriptor {
 }
 
 impl Descriptor {
-    /// The descriptor of a segment whose chunk has that many core partitions; `size` is what its producer states.
+    /// The descriptor of a segment whose chunk has that many core partitions; `size` is what its
+    /// producer states.
+    ///
+    /// # Errors
+    ///
     /// None where there are more than 32,768 core partitions.
     pub fn new(id: SegmentId, core: u16, size: u64) -> Option<Descriptor>
         ensures value { SomeIff result (core ≤ max_core) (record { id = id; core = core; size = size; tombstone = false }) }
@@ -113,7 +122,11 @@ impl Descriptor {
         }
     }
 
-    /// The tombstone of a chunk. None where the partition is not 0.
+    /// The tombstone of a chunk.
+    ///
+    /// # Errors
+    ///
+    /// None where the partition is not 0.
     pub fn tombstone(id: SegmentId) -> Option<Descriptor>
         ensures value { SomeIff result (id.partition ≡ 0) (record { id = id; core = 1; size = 0; tombstone = true }) }
         ensures valid { IfSome result IsDescribed }

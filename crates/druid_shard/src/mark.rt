@@ -1,3 +1,4 @@
+//! How far a node's history was followed.
 ghost use Rattle.std.specs.Prelude.{◌≡◌, ◌↔◌, Some, refl, IsTrue};
 ghost use Rattle.druid_shard.specs.Mark.{never, same_mark, mark_cmp};
 ghost use Rattle.druid_shard.specs.Orders as orders;

@@ -1,3 +1,4 @@
+//! Replies of nodes, judged without memory where they are made.
 ghost use Rattle.std.specs.Prelude.{◌≡◌, ◌≢◌, ◌↔◌, ◌<◌, ◌≤◌, ◌⊎◌, IfOk, IsErrOf, IsTrue, length};
 ghost use Rattle.druid_shard.specs.Reply.{max_segments, max_page, max_changes, HaveOwnIdentifiers, AreSorted, IsAsFar, IsFull, IsPageOf};
 
@@ -131,8 +132,11 @@ impl Reply {
     ghost use Rattle.druid_shard.specs.ReplyBody.{IsReply, IsSnapshotOf};
     ghost use Rattle.druid_shard.specs.declared.reply.Body.TheVariants.{Delta, Page, Reset};
 
-    /// The changes of one incarnation of a node between two marks, in order. Y5 where there are more than 1,000, and
-    /// then Y3 where the marks are of two incarnations or are not as far apart as there are changes. Does not allocate.
+    /// The changes of one incarnation of a node between two marks, in order. Does not allocate.
+    ///
+    /// # Errors
+    ///
+    /// Y5; then Y3.
     pub fn delta(from: Mark, to: Mark, changes: Vec<Change>) -> Result<Reply, ReplyFault>
         requires from { 1 ≤ from.incarnation }
         requires to { 1 ≤ to.incarnation }
@@ -166,8 +170,12 @@ impl Reply {
         }
     }
 
-    /// All that a node serves at a mark; the segments may stand in any order, and the reply has them by identifier.
-    /// Y5 where there are more than 200,000, and then Y4 where an identifier stands twice. Does not allocate.
+    /// All that a node serves at a mark; the segments may stand in any order, and the reply has
+    /// them by identifier. Does not allocate.
+    ///
+    /// # Errors
+    ///
+    /// Y5; then Y4.
     pub fn snapshot(at: Mark, mut segments: Vec<Descriptor>) -> Result<Reply, ReplyFault>
         requires { 1 ≤ at.incarnation }
         ensures ok { IfOk result (IsSnapshotOf at segments.items) }
@@ -191,8 +199,12 @@ impl Reply {
         })
     }
 
-    /// A page of all that a node served at a mark. Y5 where it has more than 20,000 segments, and then Y7 unless there are 2 to
-    /// 10 pages, it is one of them, its segments rise, and it is full or the last, which has one at least. Does not allocate.
+    /// A page of all that a node served at a mark. Does not allocate.
+    ///
+    /// # Errors
+    ///
+    /// Y5; then Y7 unless there are 2 to 10 pages, it is one of them, its segments rise, and it is
+    /// full or the last, which has one at least.
     pub fn page(
         at: Mark,
         page: u16,

@@ -8,8 +8,11 @@ use druid_segid::SegmentId;
 use std::alloc::AllocError;
 use std::cmp::Ordering;
 
-/// The place at which the segment of an identifier stands in a set, or else the place at which it would. It takes no
-/// memory.
+/// The place at which the segment of an identifier stands in a set. Does not allocate.
+///
+/// # Errors
+///
+/// Err where it stands at none, with the place where it belongs.
 pub fn find_segment(segments: &[Descriptor], id: &SegmentId) -> Result<usize, usize>
     requires { AreSorted segments.now }
     ensures found { IfOk result (StandsAt segments.now id.now) }
@@ -29,7 +32,11 @@ pub fn find_segment(segments: &[Descriptor], id: &SegmentId) -> Result<usize, us
     Err(low)
 }
 
-/// Makes a strict change of a set, in place. Where memory runs out, the set stays.
+/// Makes a strict change of a set, in place.
+///
+/// # Errors
+///
+/// Out of memory. Leaves the set as it was.
 pub fn apply_change(segments: &mut Vec<Descriptor>, change: &Change) -> Result<(), AllocError>
     requires sorted { AreSorted segments.old.items }
     requires strict { IsTrue (is_strict segments.old.items change.now) }

@@ -8,6 +8,10 @@ use serde_json::{Value, json, put};
 use std::alloc::{AllocError, Global};
 
 /// The JSON of a numbered shard spec.
+///
+/// # Errors
+///
+/// Out of memory.
 pub fn shard_value(alloc: Global, descriptor: &Descriptor) -> Result<Value, AllocError>
     ensures { IfOk result (λ v. view v ≡ shard_data descriptor.now.id.partition descriptor.now.core) }
 {
@@ -49,6 +53,10 @@ fn tombstone_value(alloc: Global, descriptor: &Descriptor) -> Result<Value, Allo
 
 /// The JSON of a descriptor: `dataSource`, `interval`, `shardSpec`, `size`, `"tombstone":true` where it is one, and
 /// `version`.
+///
+/// # Errors
+///
+/// Out of memory.
 pub fn descriptor_value(alloc: Global, descriptor: &Descriptor) -> Result<Value, AllocError>
     ensures { IfOk result (λ v. view v ≡ descriptor_data descriptor.now) }
 {

@@ -154,7 +154,11 @@ fn tombstone_field(value: &Value, segment: &DescriptorRef<'_>) -> Option<bool>
 }
 
 impl<'a> DescriptorRef<'a> {
-    /// The descriptor that a value is: the refusals of `read_descriptor` but S9. Does not allocate.
+    /// The descriptor that a value is. Does not allocate.
+    ///
+    /// # Errors
+    ///
+    /// Those of `read_descriptor` but S9.
     #[tactic(auto, unfolding(crate::specs::Json::descriptor_at))]
     pub fn of(value: &'a Value) -> Result<DescriptorRef<'a>, ShardFault>
         ensures read { Gives result (descriptor_at (view value.now)) }
@@ -174,6 +178,10 @@ impl<'a> DescriptorRef<'a> {
     }
 
     /// A copy, which shares its name and its version with those that were copied before.
+    ///
+    /// # Errors
+    ///
+    /// Out of memory. `texts` may be used again.
     pub fn to_owned_in(&self, texts: &mut SharedTexts<'a>) -> Result<Descriptor, AllocError>
         ensures { IfOk result (λ copy. copy ≡ self.now) }
     {
@@ -193,10 +201,14 @@ impl<'a> DescriptorRef<'a> {
     }
 }
 
-/// Reads a descriptor. S3 for `dataSource`, `interval`, `version` and `size`, in this order; then S2 where
-/// `shardSpec` is no object, S1 where its `type` is not `numbered`, and S2 where its numbers are out of range; then S4
-/// where `tombstone` is neither a boolean nor null, or is true with another partition than 0, core count than 1 or size
-/// than 0. S9 comes last. Other keys are passed over.
+/// Reads a descriptor. Other keys are passed over.
+///
+/// # Errors
+///
+/// S3 for `dataSource`, `interval`, `version` and `size`, in this order; then S2 where `shardSpec`
+/// is no object, S1 where its `type` is not `numbered`, and S2 where its numbers are out of range;
+/// then S4 where `tombstone` is neither a boolean nor null, or is true with another partition than
+/// 0, core count than 1 or size than 0. S9 last.
 pub fn read_descriptor(alloc: Global, value: &Value) -> Result<Descriptor, ShardFault>
     ensures { Gives result (descriptor_at (view value.now)) }
 {

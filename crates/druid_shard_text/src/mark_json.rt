@@ -8,6 +8,10 @@ use serde_json::{Value, json};
 use std::alloc::{AllocError, Global};
 
 /// The JSON of a mark: its count as `counter`, and its incarnation as `hash`.
+///
+/// # Errors
+///
+/// Out of memory.
 #[tactic(auto, unfolding(crate::specs::Json::mark_data))]
 pub fn mark_value(alloc: Global, mark: Mark) -> Result<Value, AllocError>
     ensures value { IfOk result (λ v. view v ≡ mark_data mark) }

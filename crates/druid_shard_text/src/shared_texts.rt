@@ -52,6 +52,10 @@ impl<'a> SharedTexts<'a> {
     }
 
     /// For that many descriptors.
+    ///
+    /// # Errors
+    ///
+    /// Out of memory.
     pub fn with_capacity(alloc: Global, count: usize) -> Result<SharedTexts<'a>, AllocError> {
         let slots = count.min(MAX_SLOTS);
         Ok(SharedTexts {

@@ -1,3 +1,10 @@
+//! Folders of the system. `sync` syncs the folder, so that a rename survives a power cut: each
+//! `write` syncs its own file. After a failed write or sync each later `sync` is O1 without a call
+//! of the system: Linux gives the bytes that it could not write to whoever reads, and a second
+//! `fsync` succeeds. That a later write of that file would make up for it is left out: renames move
+//! names, and what writes (a start) ends at the first failure. `read` and `list` ask for a status
+//! first, which keeps them off pipes and devices; `write` has no such guard, since no open of the
+//! kit refuses to wait or to follow a link.
 ghost use Rattle.std.specs.Prelude.{◌≡◌, ◌∷◌, ◌&&◌, IsErrOf, OnOk, OnErr, ◌+◌, ◌≤◌, [], length, codes, bytes_eq, if◌then◌else◌, false, None, Ok, IfOk, IfErr, IfSome, MatchResult, All, string_bytes};
 ghost use Rattle.std.specs.Result.{is_ok};
 ghost use Rattle.druid_store.specs.Disk.{calls_made, disk_failures};

@@ -1,3 +1,4 @@
+//! The calls made on a folder of the system, for proofs.
 ghost use Rattle.std.specs.Prelude.{◌≡◌, true, List, [], ◌∷◌};
 ghost use Rattle.std.specs.Borrow.{ftrue};
 ghost use Rattle.druid_store.specs.Event.{Event};

@@ -1,3 +1,4 @@
+//! Folders in memory, for tests: they are always honest.
 ghost use Rattle.std.specs.Prelude.{◌≡◌, true, false, Some, None, IfErr, OnOk, OnErr};
 ghost use Rattle.druid_folder.specs.declared.fault.StoreFault.TheVariants.{Memory};
 ghost use Rattle.druid_folder.specs.Folder.{Only, SameLeft, nothing};
@@ -49,7 +50,11 @@ impl MemoryFolder {
 
     /// Makes it the folder after a stop. Where the stop keeps what was not synced, all is there;
     /// where it does not, what was not synced is undone, and a file written since is there and
-    /// empty. The fuse stays. O9 where there is no memory for that, and then nothing changes.
+    /// empty. The fuse stays.
+    ///
+    /// # Errors
+    ///
+    /// O9. Leaves all as it was.
     pub fn stop(&mut self, keep: bool) -> Result<(), StoreFault>
         ensures kept { keep ≡ true → ⟦<MemoryFolder as Folder>⟧.content self.new
             ≡ ⟦<MemoryFolder as Folder>⟧.content self.old }

@@ -1,3 +1,5 @@
+//! The calls of a folder in memory, which reads its files off them, in time that grows with their
+//! number.
 ghost use Rattle.std.specs.Prelude.{◌≡◌, ◌∷◌, [], ◌++◌, ◌+◌, ◌-◌, ◌^◌, ◌≤◌, min, true, false, List, ℕ, Some, IfOk, string_bytes, length, vec_capacity, OnOk, OnErr, IfErr};
 ghost use Rattle.std.specs.Option.{option_copied, option_map};
 ghost use Rattle.druid_folder.specs.declared.fault.StoreFault.TheVariants.{Memory};

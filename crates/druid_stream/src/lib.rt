@@ -1,4 +1,6 @@
-//! Streams: a line, read part by part, and a text, written to its end.
+//! Streams: a line, read part by part, and a text, written to its end. What a writer got of a text
+//! that was cut short is defined here once (`AppendsFront`). A link over a socket, which looks at
+//! the clock before each call, has loops of its own.
 #![tactic(auto)]
 
 mod interrupted;

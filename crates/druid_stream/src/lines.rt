@@ -76,8 +76,13 @@ fn append_part<R: BufRead>(reader: &mut R, line: &mut Vec<u8>, room: usize) -> i
     Ok(part)
 }
 
-/// Appends what the reader has at hand of a line, but no more bytes than there is room for, and takes the line feed after
-/// them. An interrupted read is retried, 1,000 times in a row at most. Where it fails, nothing is taken.
+/// Appends what the reader has at hand of a line, but no more bytes than there is room for, and
+/// takes the line feed after them. An interrupted read is retried, 1,000 times in a row at most.
+///
+/// # Errors
+///
+/// The reader's error, or out of memory. Nothing is taken of the reader; of `line` no clause
+/// speaks.
 pub fn next_part<R: BufRead>(reader: &mut R, line: &mut Vec<u8>, room: usize) -> io::Result<Part>
     ensures part { IfOk result (λ part. IsPart part line.old.items line.new.items room
         (R.remaining reader.old) (R.remaining reader.new)) }
@@ -113,6 +118,10 @@ pub enum Next {
 
 /// Reads the next line, without its line feed, in place of what `line` had. Of a line of more bytes than the limit it keeps
 /// one byte more than that, and the reader stands somewhere in it. An interrupted read is retried, 1,000 times in a row at most.
+///
+/// # Errors
+///
+/// The reader's error, or out of memory; what it leaves no clause says.
 pub fn next_line<R: BufRead>(reader: &mut R, line: &mut Vec<u8>, limit: usize) -> io::Result<Next>
     ensures found { IfOk result (λ next. IfSome (R.remaining reader.old)
         (λ xs. Finds limit next xs line.new.items (R.remaining reader.new))) }

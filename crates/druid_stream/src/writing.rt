@@ -30,8 +30,12 @@ fn write_some<W: Write>(writer: &mut W, text: &[u8]) -> io::Result<usize>
     Err(ErrorKind::Interrupted.into())
 }
 
-/// Writes a text. Where the writer fails, or takes nothing, it has got some front of the text, and not the whole. An
-/// interrupted write is retried, 1,000 times in a row at most.
+/// Writes a text. An interrupted write is retried, 1,000 times in a row at most.
+///
+/// # Errors
+///
+/// The writer's error, also where it takes nothing: it has some front of the text, and not the
+/// whole.
 pub fn write_text<W: Write>(writer: &mut W, text: &[u8]) -> io::Result<()>
     ensures ok { OnOk result (Appends (W.contents writer.old) (W.contents writer.new) text.now) }
     ensures err { OnErr result

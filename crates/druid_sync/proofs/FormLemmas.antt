@@ -15,7 +15,7 @@ use Rattle.druid_shard.specs.declared.reply.Body.{Body}
 use Rattle.druid_shard.specs.Reply.{IsPageOf}
 use Rattle.druid_sync.specs.declared.fault.SyncFault.{SyncFault}
 use Rattle.druid_sync.specs.declared.fault.SyncFault.TheVariants as faults
-use Rattle.druid_sync.specs.Told.{shape_first}
+use Rattle.druid_sync.specs.FirstFault.{shape_first}
 use Rattle.druid_sync.specs.Read.{followed, whole, paged, mark_at, change_at, load_at, none_in, snapshot_at, delta_at, page_at, MayBePage, Answers, IsDeltaRead, IsSnapshotRead, IsPageRead}
 
 -- the answer to a list: Y2 where an item does not read, and else that to what was read
@@ -26,10 +26,10 @@ AnswersList R (Some xs) answer = R xs answer
 pub list_read : {A : Type 0} (R : List A → Result Body SyncFault → Type 0) (list : Option (List A)) (xs : List A) (answer : Result Body SyncFault) → list ≡ Some xs → R xs answer → AnswersList R list answer
 list_read R list xs answer read h = subst (λ l. AnswersList R l answer) (sym read) h
 
-pub list_refused : {A : Type 0} (R : List A → Result Body SyncFault → Type 0) (list : Option (List A)) (told fault : SyncFault) → told ≡ shape_first list fault
-    → ((xs : List A) → list ≡ Some xs → R xs (Err fault)) → AnswersList R list (Err told)
-list_refused R None told fault is h = subst (λ (f : SyncFault). AnswersList R None (Err f)) (sym is) refl
-list_refused R (Some xs) told fault is h = subst (λ (f : SyncFault). R xs (Err f)) (sym is) (h xs refl)
+pub list_refused : {A : Type 0} (R : List A → Result Body SyncFault → Type 0) (list : Option (List A)) (answered fault : SyncFault) → answered ≡ shape_first list fault
+    → ((xs : List A) → list ≡ Some xs → R xs (Err fault)) → AnswersList R list (Err answered)
+list_refused R None answered fault is h = subst (λ (f : SyncFault). AnswersList R None (Err f)) (sym is) refl
+list_refused R (Some xs) answered fault is h = subst (λ (f : SyncFault). R xs (Err f)) (sym is) (h xs refl)
 
 pub changes_read : (vs : List Value) → list_all (λ v. is_some (change_at (view v))) vs ≡ is_some (each_of change_at (items_view vs))
 changes_read vs = all_reads change_at vs

@@ -6,4 +6,4 @@ pub mod Back
 -- words of private contracts
 pub mod Borrowed
 pub mod Given
-pub mod Told
+pub mod FirstFault

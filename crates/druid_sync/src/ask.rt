@@ -1,4 +1,5 @@
-//! Asks, written and read.
+//! Asks, written and read. Parameters are those of a web form, without their escapes undone (the
+//! kit's `form_urlencoded`): empty pieces between `&` are none.
 ghost use Rattle.std.specs.Prelude.{◌≡◌, ◌++◌, ◌∷◌, [], ℕ, List, IfOk, Some, string_bytes, codes, decimal, ok_or};
 ghost use Rattle.druid_sync.specs.Asks.{ask_text, target_at, parameters_of, IsOfIncarnation, values_of, mark_of, page_of, page_at, ask_of, ask_at};
 ghost use Rattle.druid_sync.specs.Given.{IsGiven};
@@ -34,6 +35,10 @@ fn page_text(
 /// The target of an ask at a path: the path for the whole, with `?counter=C&hash=H` after it for what comes after the mark of
 /// count C in incarnation H, and with `&page=K` after that for page K of what was served at that mark. `read_ask` gets the
 /// ask back from what follows the `?`.
+///
+/// # Errors
+///
+/// Out of memory.
 pub fn ask_target_at(alloc: Global, path: &str, ask: &Ask) -> Result<String, AllocError>
     ensures text { IfOk result (λ text. string_bytes text ≡ target_at path.now ask.now) }
     ensures read_back { IfOk result (λ _. IsOfIncarnation ask.now → ask_at (parameters_of ask.now) ≡ Some ask.now) }
@@ -52,6 +57,10 @@ pub fn ask_target_at(alloc: Global, path: &str, ask: &Ask) -> Result<String, All
 }
 
 /// The target of an ask of a node, at `/druid-internal/v1/segments`.
+///
+/// # Errors
+///
+/// Out of memory.
 pub fn ask_target(alloc: Global, ask: &Ask) -> Result<String, AllocError>
     ensures text { IfOk result (λ text. string_bytes text ≡ ask_text ask.now) }
     ensures read_back { IfOk result (λ _. IsOfIncarnation ask.now → ask_at (parameters_of ask.now) ≡ Some ask.now) }
@@ -153,10 +162,15 @@ fn find_ask(query: &str) -> Option<Ask>
     }
 }
 
-/// Reads the query string of an ask, which is what follows the `?` of its target, and empty where there is none. `counter`
-/// and `hash` stand in any order, both once or neither, and tell a mark of an incarnation in decimal digits without a
-/// leading zero; a `counter` of -1 alone asks for the whole too. `page` stands once with both, or not at all, and tells a
-/// page in such digits, 65,535 at most. Other parameters are passed over. Y6 otherwise.
+/// Reads the query string of an ask, which is what follows the `?` of its target, and empty where
+/// there is none. `counter` and `hash` stand in any order, both once or neither, and tell a mark of
+/// an incarnation in decimal digits without a leading zero; a `counter` of -1 alone asks for the
+/// whole too. `page` stands once with both, or not at all, and tells a page in such digits, 65,535
+/// at most. Other parameters are passed over.
+///
+/// # Errors
+///
+/// Y6 of any other text.
 pub fn read_ask(query: &str) -> Result<Ask, AskFault>
     ensures { result ≡ ok_or (ask_at query.now) AskFault.BadCounter }
 {

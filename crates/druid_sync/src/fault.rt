@@ -1,5 +1,6 @@
+//! Why bytes are no reply, and a query string no ask.
 ghost use Rattle.std.specs.Prelude.{◌≡◌};
-ghost use Rattle.druid_sync.specs.Told.{of_reply};
+ghost use Rattle.druid_sync.specs.FirstFault.{of_reply};
 
 use druid_shard::ReplyFault;
 use thiserror::Error;
@@ -31,7 +32,7 @@ pub enum SyncFault {
 }
 
 impl From<ReplyFault> for SyncFault {
-    ghost from_gives = { λ fault told. told ≡ of_reply fault };
+    ghost from_gives = { λ fault answered. answered ≡ of_reply fault };
 
     fn from(fault: ReplyFault) -> SyncFault {
         match fault {

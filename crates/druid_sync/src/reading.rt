@@ -7,7 +7,7 @@ ghost use Rattle.druid_shard.specs.Reply.{IsAsFar};
 ghost use Rattle.druid_base.specs.Each.{each_of};
 ghost use Rattle.druid_shard_text.specs.Json.{descriptor_at};
 ghost use Rattle.druid_sync.specs.Borrowed.{change_borrowed, five_borrowed};
-ghost use Rattle.druid_sync.specs.Told.{shape_first};
+ghost use Rattle.druid_sync.specs.FirstFault.{shape_first};
 ghost use Rattle.druid_sync.specs.Read.{mark_at, change_at, load_at, cause_at, five_at, begun_again, none_in, reset_at, snapshot_at, delta_at, changes_at, page_at, paged_at, tells_page, unpaged_at, form_at, MayBePage, Answers, IsRead, IsReadOf};
 
 use crate::SyncFault;
@@ -408,11 +408,13 @@ fn unpaged_of(alloc: Global, five: &Borrowed) -> Result<Reply, SyncFault>
     }
 }
 
-/// Reads a reply: Y2 where the value has none of the four forms, then Y5 where a snapshot has more than 200,000 segments, a
-/// page more than 20,000 or a delta more than 1,000 changes, then Y3 where the marks of a delta are not as far apart as it
-/// has changes, then Y9 where memory runs out, Y4 where an identifier stands twice in a snapshot, and Y7 where a page is
-/// not one of 2 to 10, is neither full nor the last with a segment at least, or has segments that do not rise; all of Y7
-/// but the rising comes before Y9. The segments of a snapshot may stand in any order, and other keys are passed over.
+/// Reads a reply. The segments of a snapshot may stand in any order, and other keys than a reply's
+/// are passed over.
+///
+/// # Errors
+///
+/// Y2; then Y5; then Y3, or Y7 where a page is not one of 2 to 10, or neither full nor the last
+/// with a segment at least; then Y9; then Y4, or Y7 where the segments of a page do not rise.
 #[tactic(auto, unfolding(crate::specs::Read::form_at))]
 pub fn reply_of(alloc: Global, value: &Value) -> Result<Reply, SyncFault>
     ensures { IsRead (view value.now) result }
@@ -427,7 +429,12 @@ pub fn reply_of(alloc: Global, value: &Value) -> Result<Reply, SyncFault>
     }
 }
 
-/// Reads a reply of a data node: Y1 where the bytes are no JSON in UTF-8, then the refusals of the value.
+/// Reads a reply of a data node.
+///
+/// # Errors
+///
+/// Y1; then those of `reply_of`. Parsing allocates as it goes: of bytes in UTF-8 Y9 may come in
+/// place of any.
 pub fn read_reply(alloc: Global, bytes: &[u8]) -> Result<Reply, SyncFault>
     ensures { IsReadOf bytes.now result }
 {

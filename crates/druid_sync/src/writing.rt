@@ -178,6 +178,10 @@ fn back_of(cause: Option<Cause>) -> &'static str
 }
 
 /// The text of a reply: its JSON, compact, with the keys in the order of their bytes. A reader of JSON gets back the reply's.
+///
+/// # Errors
+///
+/// Out of memory.
 #[tactic(auto, using(crate::proofs::TextLemmas::delta_text, crate::proofs::TextLemmas::snapshot_text, crate::proofs::TextLemmas::page_text, crate::proofs::TextLemmas::reset_text))]
 pub fn reply_text(alloc: Global, reply: &Reply) -> Result<String, AllocError>
     ensures text { IfOk result (λ text. string_bytes text ≡ reply_text reply.now) }

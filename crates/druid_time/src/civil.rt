@@ -1,3 +1,4 @@
+//! Dates and times of the proleptic Gregorian calendar, out of instants and texts and back.
 ghost use Rattle.std.specs.Prelude.{◌≡◌, ◌<◌, ◌≤◌, ◌↔◌, IsTrue, SomeIff};
 ghost use Rattle.druid_time.specs.Instant.{IsInstant};
 ghost use Rattle.druid_time.specs.Texts.{digit};

@@ -17,7 +17,11 @@ pub enum Granularity {
 }
 
 impl Granularity {
-    /// The milliseconds of a bucket. None for `All`.
+    /// The milliseconds of a bucket.
+    ///
+    /// # Errors
+    ///
+    /// None of `All` alone.
     pub fn length(self) -> Option<u64>
         ensures { result ≡ bucket_length self }
     {

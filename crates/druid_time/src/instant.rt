@@ -1,3 +1,4 @@
+//! Instants, kept without a sign: they count from the year 0.
 ghost use Rattle.std.specs.Prelude.{◌≡◌, ◌<◌, ◌↔◌, ℤ, pos, neg_ℤ, ◌≤ℤ◌, IsSome, IfSome, IfOk};
 ghost use Rattle.druid_time.specs.Instant.{IsInstant, unix_ms};
 ghost use Rattle.druid_time.specs.Granularity.{bucket_at};
@@ -37,6 +38,9 @@ impl Model for Instant {
 
 impl Instant {
     /// The instant that many milliseconds after 1970-01-01T00:00:00.000Z, or before it.
+    ///
+    /// # Errors
+    ///
     /// None outside the years 0000 to 9999.
     pub fn new(ms: i64) -> Option<Instant>
         ensures valid { IsSome result
@@ -63,7 +67,9 @@ impl Instant {
     /// The instant that a text names, in UTC: `YYYY-MM-DD`, and `THH:MM`, `:SS` and `.mmm` may
     /// follow one after another, and where there is a time a `Z` at the end. What is left out is 0.
     ///
-    /// `NotATime` for any other text, and `OutOfRange` where there is no such day or time.
+    /// # Errors
+    ///
+    /// C1 of any other text; C2 where there is no such day or time.
     pub fn parse(text: &str) -> Result<Instant, TimeFault>
         ensures value { result ≡ instant_at text.now }
         ensures range { IfOk result IsInstant }
@@ -85,8 +91,12 @@ impl Instant {
         *out = Civil::of_instant(self.since_year_zero).text();
     }
 
-    /// The start of the bucket that it falls into: the greatest multiple of the bucket's length, counted from
-    /// 1970-01-01T00:00:00.000Z in both directions, that is not above it. None for `All`.
+    /// The start of the bucket that it falls into: the greatest multiple of the bucket's length,
+    /// counted from 1970-01-01T00:00:00.000Z in both directions, that is not above it.
+    ///
+    /// # Errors
+    ///
+    /// None of `All` alone.
     pub fn bucket(self, granularity: Granularity) -> Option<Instant>
         ensures value { result ≡ bucket_at granularity self }
         ensures range { IfSome result IsInstant }

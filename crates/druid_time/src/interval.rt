@@ -1,3 +1,4 @@
+//! Intervals of instants, and their texts.
 ghost use Rattle.std.specs.Prelude.{◌≡◌, ◌<◌, ◌↔◌, max, IsTrue, IsSome, IfSome, IfOk, SomeIff, string_bytes};
 ghost use Rattle.druid_time.specs.Extent.{IsExtent, Has, Share, IsMeet, common};
 ghost use Rattle.druid_time.specs.Instant.{IsInstant};
@@ -27,7 +28,11 @@ impl Model for Interval {
 }
 
 impl Interval {
-    /// The interval between two instants. None where the start is not before the end.
+    /// The interval between two instants.
+    ///
+    /// # Errors
+    ///
+    /// None where the start is not before the end.
     pub fn new(start: Instant, end: Instant) -> Option<Interval>
         ensures value { SomeIff result (start < end) (record { start = start; end = end }) }
         ensures valid { IfSome result IsExtent }
@@ -43,8 +48,9 @@ impl Interval {
     /// The interval that a text names: two instants, as `Instant::parse` reads them, with one `/`
     /// between.
     ///
-    /// `NotATime` where there is not exactly one `/`, then the first fault of the two instants, and
-    /// then `Empty` where the start is not before the end.
+    /// # Errors
+    ///
+    /// C1 where there is not exactly one `/`; then C1 or C2 of the start, then of the end; then C3.
     pub fn parse(text: &str) -> Result<Interval, TimeFault>
         ensures value { result ≡ extent_at text.now }
         ensures valid { IfOk result IsExtent }
@@ -77,6 +83,10 @@ impl Interval {
     }
 
     /// The printed form: the start and the end, with `/` between.
+    ///
+    /// # Errors
+    ///
+    /// Out of memory.
     pub fn text(&self, alloc: Global) -> Result<String, AllocError>
         ensures { IfOk result (λ text. string_bytes text ≡ extent_text self.now) }
     {
@@ -98,7 +108,11 @@ impl Interval {
         self.start.max(other.start) < self.end.min(other.end)
     }
 
-    /// The instants that both have. None where there are none.
+    /// The instants that both have.
+    ///
+    /// # Errors
+    ///
+    /// None where there are none.
     pub fn clip(&self, other: &Interval) -> Option<Interval>
         ensures value { result ≡ common self.now other.now }
         ensures shared { IsSome result ↔ Share self.now other.now }

@@ -1,3 +1,4 @@
+//! Sets of instants: sorted intervals with gaps between them.
 ghost use Rattle.std.specs.Prelude.{◌≡◌, ◌<◌, ◌↔◌, ℕ, length, vec_len, IsTrue, IfOk};
 ghost use Rattle.std.specs.List.Sorted.{IsNonDecreasingBy};
 ghost use Rattle.druid_time.specs.Extent.{AnyHas, AreParts, SameInstants};
@@ -27,6 +28,10 @@ impl Model for IntervalSet {
 
 impl IntervalSet {
     /// The instants that lie in one of the intervals, which may stand in any order and overlap.
+    ///
+    /// # Errors
+    ///
+    /// Out of memory.
     pub fn of(alloc: Global, intervals: &[Interval]) -> Result<IntervalSet, AllocError>
         ensures parts { IfOk result AreParts }
         ensures instants { IfOk result (λ s. SameInstants s intervals.now) }

@@ -281,18 +281,18 @@ told_alike true false P one other = absurd (false≢true (other.1 (one.0 refl)))
 told_alike false true P one other = absurd (false≢true (one.1 (other.0 refl)))
 
 -- what is complete before an edit and after it, by the flag
-pub level_told : (old new : Type 0) (is : Bool) → (IsTrue is ↔ new) → (old ↔ new) → IsTrue is ↔ old
-level_told old new is told level = (λ e. level.1 (told.0 e), λ c. told.1 (level.0 c))
+pub level_claim : (old new : Type 0) (is : Bool) → (IsTrue is ↔ new) → (old ↔ new) → IsTrue is ↔ old
+level_claim old new is claim level = (λ e. level.1 (claim.0 e), λ c. claim.1 (level.0 c))
 
 -- where the chunk was not complete and turns, it is complete then
 pub then_complete : (was is : Bool) (old : Type 0) → (IsTrue was ↔ old) → (old → ⊥) → (was ≡ is → ⊥) → IsTrue is
-then_complete true is old told not other = absurd (not (told.0 refl))
-then_complete false true old told not other = refl
-then_complete false false old told not other = absurd (other refl)
+then_complete true is old claim not other = absurd (not (claim.0 refl))
+then_complete false true old claim not other = refl
+then_complete false false old claim not other = absurd (other refl)
 
 pub not_complete : (was is : Bool) (old : Type 0) → (IsTrue was ↔ old) → (was ≡ is → ⊥) → IsTrue is → old → ⊥
-not_complete was true old told other e c = other (told.1 c)
-not_complete was false old told other e c = false≢true e
+not_complete was true old claim other e c = other (claim.1 c)
+not_complete was false old claim other e c = false≢true e
 
 -- ---- how many others there are
 

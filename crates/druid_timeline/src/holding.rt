@@ -1,4 +1,5 @@
-//! What is held of a source while much of it changes: what is visible is made once, after all edits.
+//! What is held of a source while much of it changes: what is visible is made once, after all
+//! edits.
 ghost use Rattle.std.specs.Prelude.{◌≡◌, ◌≤◌, ◌+◌, ◌*◌, ◌↔◌, List, [], length, IsTrue, IfOk, OnOk, OnErr};
 ghost use Rattle.druid_segid.specs.Group.{Group};
 ghost use Rattle.druid_timeline.specs.Holding.{held_of, HoldsNothing, HasComplete, IsHeld, IsServed, AddsHeld, RemovesHeld, RemovesOneHeld, SameHeld};
@@ -44,6 +45,10 @@ impl Holding {
     }
 
     /// What is held of a timeline. Copies share the chunks.
+    ///
+    /// # Errors
+    ///
+    /// Out of memory.
     pub fn of(timeline: &Timeline) -> Result<Holding, AllocError>
         ensures { IfOk result (λ holding. holding ≡ timeline.now) }
     {
@@ -63,7 +68,11 @@ impl Holding {
         self.chunks.is_empty()
     }
 
-    /// Adds a segment of this source that the node does not serve yet. A refusal changes nothing of what is held.
+    /// Adds a segment of this source that the node does not serve yet.
+    ///
+    /// # Errors
+    ///
+    /// Out of memory. Leaves the source, and as a set what is held.
     pub fn add_absent(&mut self, descriptor: &Descriptor, node: NodeNo) -> Result<(), AllocError>
         requires source { descriptor.now.id.source ≡ self.old.source }
         requires absent { IsHeld self.old.held node descriptor.now.id → ⊥ }
@@ -76,7 +85,11 @@ impl Holding {
         self.chunks.add(descriptor, node)
     }
 
-    /// Removes a segment of this source that the node serves. A refusal changes nothing of what is held.
+    /// Removes a segment of this source that the node serves.
+    ///
+    /// # Errors
+    ///
+    /// Out of memory. Leaves the source, and as a set what is held.
     pub fn remove_present(&mut self, id: &SegmentId, node: NodeNo) -> Result<(), AllocError>
         requires { IsServed self.old node id.now }
         ensures removed { OnOk result (RemovesHeld self.old.held self.new.held node id.now) }
@@ -91,6 +104,10 @@ impl Holding {
 
     /// The timeline of what is held, by one sweep. Where n chunks are complete, it counts at most 3 * n comparisons,
     /// whatever the answer.
+    ///
+    /// # Errors
+    ///
+    /// Out of memory.
     pub fn into_timeline(self, meter: &mut Meter) -> Result<Timeline, AllocError>
         ensures timeline { IfOk result (λ timeline. timeline ≡ self) }
         ensures counted { meter.old ≤ meter.new }

@@ -1,3 +1,4 @@
+//! Facts that hold of all holdings.
 ghost use Rattle.std.specs.Prelude.{◌≡◌, ℕ, List, Contains};
 ghost use Rattle.druid_time.specs.Extent.{Extent, AnyHas, AreParts};
 ghost use Rattle.druid_segid.specs.Group.{Group};

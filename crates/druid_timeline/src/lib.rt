@@ -1,4 +1,5 @@
-//! Which version of a data source is visible at each instant.
+//! Which version of a data source is visible at each instant, over what nodes serve. The size of a
+//! segment is forgotten here: the inventory keeps it.
 #![tactic(auto)]
 
 mod edit;

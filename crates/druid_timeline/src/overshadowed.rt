@@ -1,4 +1,6 @@
-//! The complete chunks that are visible at no instant.
+//! The complete chunks that are visible at no instant. They are sorted by interval, and versions of
+//! one interval then put in their places, on the meter: each is moved once for each that belongs
+//! before it.
 ghost use Rattle.std.specs.Prelude.{◌≡◌, ◌↔◌, ◌≤◌, ℕ, List, IsTrue, IfOk, Contains, length};
 ghost use Rattle.std.specs.HashSet as set;
 ghost use Rattle.std.specs.List.{IsDistinct, insert};

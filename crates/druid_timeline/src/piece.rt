@@ -1,3 +1,4 @@
+//! Visible pieces. Those of one chunk in one lookup share the list of its partitions.
 ghost use Rattle.std.specs.Prelude.{◌≡◌, IfOk};
 
 use druid_segid::GroupKey;
@@ -23,6 +24,10 @@ impl Model for Partitions {
 
 impl Partitions {
     /// These numbers, in this order.
+    ///
+    /// # Errors
+    ///
+    /// Out of memory.
     pub fn new(alloc: Global, items: Vec<u16>) -> Result<Partitions, AllocError>
         ensures { IfOk result (λ parts. parts ≡ items.items) }
     {

@@ -1,5 +1,6 @@
-//! The skyline of the chunks that a sweep has passed: those that may be the best at an instant to come. Towards its back
-//! the rank rises and the end falls, so the best one is the last, and the ends are searched by halving.
+//! The skyline of the chunks that a sweep has passed: those that may be the best at an instant to
+//! come. Towards its back the rank rises and the end falls, so the best one is the last, and the
+//! ends are searched by halving.
 ghost use Rattle.std.specs.Prelude.{◌≡◌, ◌≤◌, ◌<◌, ◌+◌, ◌-◌, ◌*◌, ◌++◌, ◌↔◌, ◌⊎◌, List, [], ◌∷◌, length, map, take, drop, IsTrue, IfOk, OnOk, MatchOption, option_copied, Contains};
 ghost use Rattle.std.specs.List.{AllWithin};
 ghost use Rattle.druid_segid.specs.Group.{Group, Outranks};

@@ -1,4 +1,5 @@
-//! What is visible in one part of some chunks, by a sweep over the instants where the best of them changes.
+//! What is visible in one part of some chunks, by a sweep over the instants where the best of them
+//! changes.
 ghost use Rattle.std.specs.Prelude.{◌≡◌, ◌<◌, ◌≤◌, ◌+◌, ◌*◌, ◌↔◌, ◌⊎◌, ℕ, List, min, drop, length, map, IsTrue, OnOk, MatchOption, option_copied, Contains};
 ghost use Rattle.druid_time.specs.Extent.{Has, IsExtent};
 ghost use Rattle.druid_segid.specs.Group.{Group};

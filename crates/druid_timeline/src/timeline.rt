@@ -1,3 +1,7 @@
+//! A timeline keeps its visible pieces (`runs`) beside its chunks, and edits both. What an edit
+//! replaces is made first, and all that allocates comes before anything changes: so nothing has to
+//! be undone, which a removal could not do without memory. It counts on the meter even where memory
+//! is refused after it.
 ghost use Rattle.std.specs.Prelude.{◌≡◌, ◌≤◌, ◌+◌, ◌*◌, ◌↔◌, ◌⊎◌, ℕ, List, [], ◌∷◌, All, Contains, IsTrue, IfOk, IfErr, OnOk, OnErr, IsErrOf, length, map, MatchOption};
 ghost use Rattle.std.specs.List.Sorted.{IsStrictlyIncreasing, IsStrictlySortedBy};
 ghost use Rattle.druid_time.specs.Extent.{AnyHas};
@@ -93,11 +97,15 @@ impl Timeline {
         self.chunks.as_slice().len()
     }
 
-    /// Adds a segment of this source that the node does not serve yet. A refusal changes nothing of what is held.
+    /// Adds a segment of this source that the node does not serve yet.
     ///
     /// It counts no comparison where the completeness of the segment's chunk does not turn. Where the chunk was not
     /// complete, it counts at most one for each visible piece inside its interval, and where k other complete chunks
     /// overlap it, at most 3 * k + 1, whatever the answer.
+    ///
+    /// # Errors
+    ///
+    /// Out of memory. Leaves the source, and as a set what is held.
     pub fn add_absent(
         &mut self,
         descriptor: &Descriptor,
@@ -128,9 +136,12 @@ impl Timeline {
         )
     }
 
-    /// Adds a segment that a node serves. L2 where it is of another source, then L1 where the node serves that
-    /// identifier already, and L9 last; a refusal changes nothing of what is held. It counts what `add_absent` counts, and
-    /// nothing at L2 and L1.
+    /// Adds a segment that a node serves. It counts what `add_absent` counts, and nothing at L2 and
+    /// L1.
+    ///
+    /// # Errors
+    ///
+    /// L2; then L1; L9 last. Leaves the source, and as a set what is held.
     pub fn add(
         &mut self,
         descriptor: &Descriptor,
@@ -167,8 +178,11 @@ impl Timeline {
         Ok(())
     }
 
-    /// Removes a segment of this source that the node serves. A refusal changes nothing of what is held. It counts as
-    /// `add_absent` does.
+    /// Removes a segment of this source that the node serves. It counts as `add_absent` does.
+    ///
+    /// # Errors
+    ///
+    /// Out of memory. Leaves the source, and as a set what is held.
     pub fn remove_present(
         &mut self,
         id: &SegmentId,
@@ -199,8 +213,12 @@ impl Timeline {
         )
     }
 
-    /// Removes a segment that a node serves. L3 where the node does not serve it, and L9 last; a refusal changes nothing
-    /// of what is held. It counts what `remove_present` counts, and nothing at L3.
+    /// Removes a segment that a node serves. It counts what `remove_present` counts, and nothing at
+    /// L3.
+    ///
+    /// # Errors
+    ///
+    /// L3, of another source too; L9 last. Leaves the source, and as a set what is held.
     pub fn remove(
         &mut self,
         id: &SegmentId,
@@ -240,7 +258,11 @@ impl Timeline {
         &self.runs
     }
 
-    /// The chunk that is visible at an instant, if one is. Does not allocate.
+    /// The chunk that is visible at an instant. Does not allocate.
+    ///
+    /// # Errors
+    ///
+    /// None where no chunk is.
     pub fn at(&self, instant: Instant) -> Option<&GroupKey>
         ensures { MatchOption result (NothingVisible self.now.held instant)
             (λ key. IsVisible self.now.held instant key.now) }
@@ -249,6 +271,10 @@ impl Timeline {
     }
 
     /// The visible pieces, cut by the parts of a set, in order, each with all partitions of its chunk.
+    ///
+    /// # Errors
+    ///
+    /// Out of memory.
     pub fn lookup(&self, set: &IntervalSet) -> Result<Vec<Piece>, AllocError>
         ensures pieces { IfOk result (λ found.
             ArePiecesIn (AnyHas set.now) self.now.held (map shown_of found.items)) }
@@ -259,6 +285,10 @@ impl Timeline {
     }
 
     /// The complete chunks that are visible at no instant, each once: by start, then by end, then by rising version.
+    ///
+    /// # Errors
+    ///
+    /// Out of memory. The meter may have counted, and is not set back.
     pub fn overshadowed(&self, meter: &mut Meter) -> Result<Vec<GroupKey>, AllocError>
         ensures all { IfOk result (λ v. (g : Group) → Contains v.items g ↔ IsOvershadowed self.now.held g) }
         ensures sorted { IfOk result (λ v. IsStrictlySortedBy place_cmp v.items) }
@@ -268,6 +298,10 @@ impl Timeline {
     }
 
     /// The nodes that hold a segment, rising; none where it is of another source.
+    ///
+    /// # Errors
+    ///
+    /// Out of memory.
     pub fn replicas(&self, id: &SegmentId) -> Result<Vec<NodeNo>, AllocError>
         ensures rising { IfOk result (λ v. IsStrictlyIncreasing v.items) }
         ensures nodes { IfOk result (λ v. (n : ℕ) → Contains v.items n ↔ IsServed self.now n id.now) }
@@ -279,6 +313,10 @@ impl Timeline {
     }
 
     /// The nodes that hold a segment as no tombstone, rising; none where it is of another source.
+    ///
+    /// # Errors
+    ///
+    /// Out of memory.
     pub fn served(&self, id: &SegmentId) -> Result<Vec<NodeNo>, AllocError>
         ensures rising { IfOk result (λ v. IsStrictlyIncreasing v.items) }
         ensures nodes { IfOk result (λ v. (n : ℕ) → Contains v.items n ↔ ServesRows self.now n id.now) }
@@ -290,6 +328,10 @@ impl Timeline {
     }
 
     /// A timeline of equal holding.
+    ///
+    /// # Errors
+    ///
+    /// Out of memory.
     pub fn try_clone(&self) -> Result<Timeline, AllocError>
         ensures { IfOk result (λ copy. copy ≡ self.now) }
     {

@@ -80,11 +80,15 @@ impl Transaction {
         self.chunks.chunks().holds(id, node)
     }
 
-    /// Adds a segment of this source that the node does not serve yet. A refusal changes nothing of what is held.
+    /// Adds a segment of this source that the node does not serve yet.
     ///
     /// It counts no comparison where the completeness of the segment's chunk does not turn. Where the chunk was not
     /// complete, it counts at most one for each visible piece inside its interval, and where k other complete chunks
     /// overlap it, at most 3 * k + 1, whatever the answer.
+    ///
+    /// # Errors
+    ///
+    /// Out of memory. Leaves the source, as a set what is held, and what a roll back gives.
     pub fn add_absent(
         &mut self,
         descriptor: &Descriptor,
@@ -117,9 +121,12 @@ impl Transaction {
         )
     }
 
-    /// Adds a segment that a node serves. L2 where it is of another source, then L1 where the node serves that
-    /// identifier already, and L9 last; a refusal changes nothing of what is held. It counts what `add_absent` counts, and
-    /// nothing at L2 and L1.
+    /// Adds a segment that a node serves. It counts what `add_absent` counts, and nothing at L2 and
+    /// L1.
+    ///
+    /// # Errors
+    ///
+    /// L2; then L1; L9 last. Leaves the source, as a set what is held, and what a roll back gives.
     pub fn add(
         &mut self,
         descriptor: &Descriptor,
@@ -156,8 +163,11 @@ impl Transaction {
         Ok(())
     }
 
-    /// Removes a segment of this source that the node serves. A refusal changes nothing of what is held. It counts as
-    /// `add_absent` does.
+    /// Removes a segment of this source that the node serves. It counts as `add_absent` does.
+    ///
+    /// # Errors
+    ///
+    /// Out of memory. Leaves the source, as a set what is held, and what a roll back gives.
     pub fn remove_present(
         &mut self,
         id: &SegmentId,
@@ -190,8 +200,13 @@ impl Transaction {
         )
     }
 
-    /// Removes a segment that a node serves. L3 where the node does not serve it, and L9 last; a refusal changes nothing
-    /// of what is held. It counts what `remove_present` counts, and nothing at L3.
+    /// Removes a segment that a node serves. It counts what `remove_present` counts, and nothing at
+    /// L3.
+    ///
+    /// # Errors
+    ///
+    /// L3, of another source too; L9 last. Leaves the source, as a set what is held, and what a
+    /// roll back gives.
     pub fn remove(
         &mut self,
         id: &SegmentId,

@@ -11,7 +11,7 @@ use Rattle.druid_wire.specs.declared.head.RequestParts.{RequestParts}
 use Rattle.druid_wire.proofs.ResponseLemmas.{IsOfHead, of_request, head_faulty}
 use Rattle.druid_wire.proofs.TakenLemmas.{request_within}
 
--- a fault of the head, told by its end
+-- a fault of the head, known by its end
 answered : (input : List ℕ) (f : WireFault) → IsOfHead f → HasFault RequestSays input f → IsAnswerable input
 answered input Cut is has = absurd is
 answered input Read is has = absurd is

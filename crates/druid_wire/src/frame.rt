@@ -1,4 +1,5 @@
-//! Where the head of a message ends.
+//! Where the head of a message ends. A head is framed before it is parsed, so that `httparse` looks
+//! at it once, whole, and each refusal is of that head.
 ghost use Rattle.std.specs.Prelude.{◌≡◌, ◌↔◌, ◌+◌, ◌≤◌, ◌==◌, length, drop, IsTrue, IfOk, IfSome};
 ghost use Rattle.druid_stream.specs.Taken.{TakesAtMost};
 ghost use Rattle.druid_wire.specs.Frame.{IsBlank};

@@ -1,4 +1,5 @@
-//! The head of a message, in bytes that are at hand.
+//! The head of a message, in bytes that are at hand: what a link gave at once has no device that
+//! may fail.
 ghost use Rattle.std.specs.Prelude.{◌≡◌, ◌∷◌, ◌++◌, IfSome, IfNone, IfOk, IfErr};
 ghost use Rattle.druid_wire.specs.Frame.{IsPlain, IsFramed};
 ghost use Rattle.druid_wire.specs.Messages.{IsOfBytes};

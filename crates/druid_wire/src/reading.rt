@@ -1,4 +1,4 @@
-//! Messages, read.
+//! Messages, read from a `BufRead`, so that nothing after the body is taken of the reader.
 ghost use Rattle.std.specs.Prelude.{◌≡◌, ◌↔◌, ◌⊎◌, ◌+◌, ℕ, List, true, Some, OnOk, OnErr, IfOk, IfErr, IfSome};
 ghost use Rattle.std.specs.IoError.{error_kind};
 ghost use Rattle.httparse.specs.Spans.{span_bytes};
@@ -84,12 +84,16 @@ fn request_of(
     Ok(Request::new(method, target, body))
 }
 
-/// Reads a request: a head of the grammar, after blank lines, and exactly its body. What follows stays unread. The limit of
-/// a head counts the blank lines before it, and no more than a head and a body may have is taken of the reader; where the head
-/// is refused, no more than the head may have and two bytes. Where it has several faults, any of them is reported: `Cut` where
-/// the input ends in it, `HeadTooLong` where its head passes a limit,
-/// `BadHead` where the head is none or names its length twice or badly, `NoLength` where its body is coded or a `POST` names
-/// no length, `BodyTooLong` where the length passes the limit. `Read` where the reader fails, `Memory` where memory runs out.
+/// Reads a request: a head of the grammar, after blank lines, and exactly its body. What follows
+/// stays unread. The limit of a head counts the blank lines before it.
+///
+/// # Errors
+///
+/// Of several faults any: X1 where the input ends in it, X5 where its head passes a limit, X4 where
+/// the head is none or names its length twice or badly, X6 where its body is coded or a `POST`
+/// names no length, X7 where the length passes the limit. X2 and X9 may come in place of any. No
+/// more than a head and a body may have is taken of the reader; where the head is refused, no more
+/// than it may have and two bytes.
 pub fn read_request<R: BufRead>(alloc: Global, reader: &mut R) -> Result<Request, WireFault>
     ensures ok { IfOk result (λ request. IfSome (R.remaining reader.old)
         (λ input. (rest : List ℕ) × (R.remaining reader.new ≡ Some rest) × IsRequest input request rest)) }
@@ -114,7 +118,11 @@ pub fn read_request<R: BufRead>(alloc: Global, reader: &mut R) -> Result<Request
     request_of(alloc, &head, parts, body)
 }
 
-/// Reads a response, its status and its body, as `read_request` does a request. A status below 100 is `BadHead`.
+/// Reads a response, its status and its body, as `read_request` does a request.
+///
+/// # Errors
+///
+/// Those of `read_request`; X4 of a status below 100 too.
 pub fn read_response<R: BufRead>(
     alloc: Global,
     reader: &mut R,
@@ -142,10 +150,14 @@ pub fn read_response<R: BufRead>(
     Ok((parts.status, body))
 }
 
-/// The status and the body, which is borrowed, of the response that stands in these bytes; what follows the body is passed over.
-/// Where it has several faults, any of them is reported: `Cut` where the bytes end in it, `HeadTooLong` where its head passes a
-/// limit, `BadHead` where the head is none, names its length twice or badly, or has a status below 100, `NoLength` where its
-/// body is coded or it names no length, `BodyTooLong` where the length passes the limit. Does not allocate.
+/// The status and the body, which is borrowed, of the response that stands in these bytes; what
+/// follows the body is passed over. Does not allocate.
+///
+/// # Errors
+///
+/// Of several faults any: X1 where the bytes end in it, X5 where its head passes a limit, X4 where
+/// the head is none, names its length twice or badly, or has a status below 100, X6 where its body
+/// is coded or it names no length, X7 where the length passes the limit.
 pub fn response_of(bytes: &[u8]) -> Result<(StatusCode, &[u8]), WireFault>
     ensures ok { IfOk result (λ response. (rest : List ℕ) × IsResponse bytes.now response.0 response.1.now rest) }
     ensures err { IfErr result (λ fault. HasFault ResponseSays bytes.now fault) }

@@ -1,4 +1,6 @@
-//! What a server answers.
+//! What a server answers. A body is owned, fixed, or the code of a fault, and written in pieces, so
+//! that a server says without memory that it has none. What stands round a code is spelled here
+//! alone; the name of a field is written as JSON, which may have to escape it.
 ghost use Rattle.std.specs.Prelude.{◌≡◌, IfOk, codes, string_bytes};
 ghost use Rattle.serde_json.specs.View.{view};
 ghost use Rattle.druid_wire.specs.Response.{error_text, field_data, field_text, text_of};
@@ -106,6 +108,10 @@ impl Response {
     }
 
     /// A response that tells of a fault in a field, `{"error":"Q3","field":"filter"}` and so on.
+    ///
+    /// # Errors
+    ///
+    /// Out of memory.
     pub fn of_field(
         alloc: Global,
         status: StatusCode,
@@ -176,6 +182,10 @@ impl Response {
     }
 
     /// The status, and the body in a vector of its own.
+    ///
+    /// # Errors
+    ///
+    /// Out of memory, unless the body is owned (read in the code).
     pub fn into_parts(self, alloc: Global) -> Result<(StatusCode, Vec<u8>), AllocError>
         ensures { IfOk result (λ r. Tells self.status self.body r.0 r.1.items) }
     {

@@ -23,6 +23,10 @@ fn status_sent(status: StatusCode, count: usize) -> u16
 }
 
 /// Writes a response as `write_response` does its status and body, and gives the status that was written.
+///
+/// # Errors
+///
+/// Those of `write_response`.
 pub fn send_response<W: Write>(response: &Response, writer: &mut W) -> Result<u16, WireFault>
     ensures ok { IfOk result (IsSent (W.contents writer.old) (W.contents writer.new) response.now.status response.now.body) }
     ensures err { IfErr result (IsCutShort (W.contents writer.old) (W.contents writer.new) response.now.status response.now.body) }
@@ -53,8 +57,13 @@ fn refusal_code(fault: WireFault) -> Option<&'static str>
     }
 }
 
-/// Answers where no request was read, and gives the status that was written: X4 to X7 are answered 400 with their number. Of
-/// any other fault nothing is written, and it is given back. `Write` or `Memory` where the writer fails.
+/// Answers where no request was read, and gives the status that was written: X4 to X7 are answered
+/// 400 with their number.
+///
+/// # Errors
+///
+/// Any other fault is given back, with nothing written. X3 or X9 of the writer, which has some
+/// front of the answer, and not the whole.
 pub fn refuse_request<W: Write>(fault: WireFault, writer: &mut W) -> Result<u16, WireFault>
     ensures ok { IfOk result (λ sent. (text : List ℕ) × (refusal_text fault ≡ Some text)
         × IsSent (W.contents writer.old) (W.contents writer.new) 400 text sent) }

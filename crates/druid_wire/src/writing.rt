@@ -1,4 +1,5 @@
-//! Messages, written to a writer, which does not allocate, and the bytes of requests.
+//! Messages, written to a writer piece by piece, which does not allocate, and the bytes of
+//! requests. Who writes to a socket buffers.
 ghost use Rattle.std.specs.Prelude.{◌≡◌, ◌↔◌, ◌≤◌, ◌⊎◌, ◌-◌, ◌^◌, min, length, decimal, IfOk, IfErr, OnOk, OnErr};
 ghost use Rattle.std.specs.Io.KnownBytes.{Appends};
 ghost use Rattle.std.specs.IoError.{error_kind};
@@ -139,6 +140,10 @@ pub(crate) fn join_pieces(alloc: Global, pieces: &[&[u8]]) -> Result<Vec<u8>, Al
 }
 
 /// The text of a request, whatever the length of its body.
+///
+/// # Errors
+///
+/// Out of memory.
 pub fn request_bytes(alloc: Global, request: &Request) -> Result<Vec<u8>, AllocError>
     ensures { IfOk result (λ bytes. bytes.items ≡ request_text request.now) }
 {
@@ -147,9 +152,12 @@ pub fn request_bytes(alloc: Global, request: &Request) -> Result<Vec<u8>, AllocE
     join_pieces(alloc, &pieces)
 }
 
-/// Writes a request, and does not allocate. `BodyTooLong`, and nothing is written, where its body passes the limit. `Write`
-/// where the writer fails, and `Memory` where memory runs out: then it has got some front of the request, and
-/// not the whole. Nothing is flushed.
+/// Writes a request, and does not allocate. Nothing is flushed.
+///
+/// # Errors
+///
+/// X7 where its body passes the limit, and nothing is written. X3 or X9 of the writer, which has
+/// some front of the request, and not the whole.
 pub fn write_request<W: Write>(request: &Request, writer: &mut W) -> Result<(), WireFault>
     ensures ok { OnOk result (Appends (W.contents writer.old) (W.contents writer.new) (request_text request.now)) }
     ensures short { OnOk result (length request.now.body ≤ max_body) }
@@ -206,9 +214,12 @@ pub(crate) fn write_body<W: Write>(
     )
 }
 
-/// Writes a response, and does not allocate. In place of one whose body passes the limit, status 500 and
-/// `{"error":"TooLarge"}` are written. `Write` where the writer fails, and `Memory` where memory runs out: then
-/// it has got some front of the text, and not the whole. Nothing is flushed.
+/// Writes a response, and does not allocate. In place of one whose body passes the limit, status
+/// 500 and `{"error":"TooLarge"}` are written. Nothing is flushed.
+///
+/// # Errors
+///
+/// X3 or X9 of the writer, which has some front of the text, and not the whole.
 pub fn write_response<W: Write>(
     status: StatusCode,
     body: &[u8],

@@ -51,11 +51,6 @@ abbrev pub later_mark : Option Point → Point → Option Point
 later_mark None mark = Some mark
 later_mark (Some at) mark = if is_lt (mark_cmp mark at) then Some at else Some mark
 
--- the spare copy of the pages is like the other, or ahead by a page, which gave this
-abbrev pub IsAhead : Option Parts → Option (Body × Option Body) → Option Parts → Type 0
-IsAhead pages None spare = spare ≡ pages
-IsAhead pages (Some ahead) spare = TakesReply pages ahead.0 ahead.1 spare
-
 -- what a page gives; None where it is refused
 abbrev pub GivesOrRefuses : Option Parts → Body → Option (Option Body) → Option Parts → Type 0
 GivesOrRefuses old reply None new = RefusesReply old reply PageConflict × (new ≡ old)

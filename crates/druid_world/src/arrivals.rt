@@ -1,14 +1,13 @@
 //! The pages of nodes that came to a broker.
-ghost use Rattle.std.specs.Prelude.{◌≡◌, ◌↔◌, ◌<◌, Option, None, Some, IsTrue, length, replicate, option_map, slice_get, IfOk, IfErr, OnOk, OnErr};
-ghost use Rattle.druid_shard.specs.declared.reply.Body.TheVariants.{Page};
+ghost use Rattle.std.specs.Prelude.{◌≡◌, ◌↔◌, ◌<◌, Option, None, Some, IsTrue, length, replicate, option_map, slice_get, IfOk, IfErr, IfSome, OnOk, OnErr};
 ghost use Rattle.druid_pages.specs.Assembly.{Parts};
 ghost use Rattle.druid_inventory.specs.Assembly.{IsPageReply, OfPage, TakesReply};
 ghost use Rattle.druid_world.specs.Run.{Applies, AppliesGiven, Delivers, TakesPage};
-ghost use Rattle.druid_world.specs.Node.{DeliversAt, IsAhead, GivesOrRefuses, mark_of, later_mark};
+ghost use Rattle.druid_world.specs.Node.{DeliversAt, GivesOrRefuses, mark_of, later_mark};
 
 use crate::SimFault;
 use druid_inventory::{ApplyFault, Assembly, Inventory};
-use druid_shard::{Body, Descriptor, Mark, NodeNo, Reply};
+use druid_shard::{Body, Mark, NodeNo, Reply};
 use std::alloc::{AllocError, Global};
 use std::marker::Model;
 
@@ -76,6 +75,17 @@ impl Model for Marked {
     ghost view = { λ a. a.pages };
 
     ghost invariant = { λ a. a.at ≡ mark_of a.pages };
+}
+
+impl Clone for Marked {
+    ghost is_clone = { λ marked copy. copy ≡ marked };
+
+    fn clone(&self) -> Result<Marked, AllocError> {
+        Ok(Marked {
+            pages: self.pages.clone()?,
+            at: self.at,
+        })
+    }
 }
 
 impl Marked {
@@ -159,135 +169,39 @@ fn settle(
     }
 }
 
-// Copies of segments, in their order.
-fn copies_of(alloc: Global, segments: &[Descriptor]) -> Result<Vec<Descriptor>, AllocError>
-    ensures { IfOk result (λ copies. copies.items ≡ segments.now) }
-{
-    let mut copies = Vec::with_capacity(alloc, segments.len())?;
-    for segment in segments {
-        copies.push(segment.clone()?)?;
-    }
-    Ok(copies)
-}
-
-// Whether they are the same segments.
-#[tactic(auto, using(druid_shard::proofs::DescribedLemmas::same_sets))]
-fn are_same(a: &[Descriptor], b: &[Descriptor]) -> bool
-    ensures { IsTrue result ↔ (a.now ≡ b.now) }
-{
-    a == b
-}
-
-// A copy of a page.
-#[derive(Debug, Drop)]
-struct PageCopy {
-    at: Mark,
-    page: u16,
-    of: u16,
-    segments: Vec<Descriptor>,
-}
-
-impl Model for PageCopy {
-    ghost use Rattle.druid_shard.specs.declared.reply.Body.{Body};
-    ghost use Rattle.druid_shard.specs.declared.reply.Body.TheVariants.{Page};
-
-    ghost Value = { Body };
-
-    ghost view = { λ a. Page a.at a.page a.of a.segments.items };
-}
-
-// A copy of a reply that is a page.
-fn copy_of(alloc: Global, reply: &Reply) -> Result<PageCopy, AllocError>
-    requires { IsPageReply reply.now }
-    ensures { IfOk result (λ copy. copy ≡ reply.now) }
-{
-    match reply.body() {
-        Body::Page {
-            at,
-            page,
-            of,
-            segments,
-        } => Ok(PageCopy {
-            at: *at,
-            page: *page,
-            of: *of,
-            segments: copies_of(alloc, segments.as_slice())?,
-        }),
-        Body::Delta { .. } => unreachable!(),
-        Body::Snapshot { .. } => unreachable!(),
-        Body::Reset { .. } => unreachable!(),
-    }
-}
-
-impl PageCopy {
-    // Whether it is this page.
-    fn is_page(&self, at: Mark, page: u16, of: u16, segments: &[Descriptor]) -> bool
-        ensures { IsTrue result → self.now ≡ Page at page of segments.now }
-    {
-        self.at == at && self.page == page && self.of == of && are_same(&self.segments, segments)
-    }
-
-    // Whether the reply is this page.
-    fn is_of(&self, reply: &Reply) -> bool
-        ensures { IsTrue result → self.now ≡ reply.now }
-    {
-        match reply.body() {
-            Body::Page {
-                at,
-                page,
-                of,
-                segments,
-            } => self.is_page(*at, *page, *of, segments.as_slice()),
-            Body::Delta { .. } => false,
-            Body::Snapshot { .. } => false,
-            Body::Reset { .. } => false,
-        }
-    }
-}
-
-// The page by which the spare copy is ahead, and what it gave.
-type Ahead = Option<(PageCopy, Option<Reply>)>;
-
-// Takes a page, the spare copy first, and applies what the pages give once all have come. `Err` where memory runs out: whether the
-// spare is ahead then.
-fn take_anew(
+// Takes a page, the spare copy first, and applies what the pages give once all have come. Where
+// memory runs out, the spare may have taken it.
+fn take_with(
     alloc: Global,
     pages: &mut Marked,
     spare: &mut Marked,
     inventory: &mut Inventory,
     node: NodeNo,
     reply: &Reply,
-) -> Result<(), Ahead>
+) -> Result<(), SimFault>
     requires page { IsPageReply reply.now }
     requires node { node < length inventory.old }
     requires alike { spare.old ≡ pages.old }
     ensures ok { OnOk result (TakesPage inventory.old pages.old node reply.now inventory.new pages.new) }
     ensures alike { OnOk result (spare.new ≡ pages.new) }
-    ensures ahead { IfErr result (λ ahead. IsAhead pages.new ahead spare.new) }
     ensures pages { OnErr result (pages.new ≡ pages.old) }
     ensures inventory { OnErr result (inventory.new ≡ inventory.old) }
+    ensures memory { IfErr result (λ fault. fault ≡ SimFault.Memory) }
 {
-    let Ok(copy) = copy_of(alloc, reply) else {
-        return Err(None);
-    };
-    match spare.take(reply) {
-        Ok(Some(given)) => match settle(alloc, pages, inventory, node, reply, &given) {
-            Ok(()) => Ok(()),
-            Err(_) => Err(Some((copy, given))),
-        },
-        Ok(None) => Ok(()),
-        Err(_) => Err(None),
+    match spare.take(reply)? {
+        Some(given) => settle(alloc, pages, inventory, node, reply, &given),
+        None => Ok(()),
     }
 }
 
-// The pages of a node that came to a broker, and a spare copy, which takes each page first: a page counts once nothing can
-// fail any more. Where memory runs out in between, the spare is ahead by that page.
+// The pages of a node that came to a broker, and a spare copy, which takes each page first: a page
+// counts once nothing can fail any more. Where memory ran out in between there is no spare, and
+// the next page makes one.
 #[derive(Debug, Drop)]
 pub(crate) struct Arrived {
     alloc: Global,
     pages: Marked,
-    spare: Marked,
-    ahead: Ahead,
+    spare: Option<Marked>,
 }
 
 impl Model for Arrived {
@@ -295,67 +209,34 @@ impl Model for Arrived {
 
     ghost view = { λ a. a.pages };
 
-    ghost invariant = { λ a. IsAhead a.pages a.ahead a.spare };
-}
-
-// Takes the page by which the spare is ahead, and no other one.
-fn take_again_in(
-    alloc: Global,
-    pages: &mut Marked,
-    ahead: &(PageCopy, Option<Reply>),
-    inventory: &mut Inventory,
-    node: NodeNo,
-    reply: &Reply,
-) -> Result<(), SimFault>
-    requires page { IsPageReply reply.now }
-    requires node { node < length inventory.old }
-    requires ahead { (left : Option Parts) × TakesReply pages.old ahead.now.0 ahead.now.1 left }
-    ensures ok { OnOk result (TakesPage inventory.old pages.old node reply.now inventory.new pages.new) }
-    ensures takes { OnOk result (TakesReply pages.old ahead.now.0 ahead.now.1 pages.new) }
-    ensures pages { OnErr result (pages.new ≡ pages.old) }
-    ensures inventory { OnErr result (inventory.new ≡ inventory.old) }
-    ensures memory { IfErr result (λ fault. fault ≡ SimFault.Memory) }
-{
-    let (copy, given) = ahead;
-    if !copy.is_of(reply) {
-        return Err(SimFault::Memory);
-    }
-    settle(alloc, pages, inventory, node, reply, given)
+    ghost invariant = { λ a. IfSome a.spare (λ spare. spare ≡ a.pages) };
 }
 
 // Takes a page, and applies what the pages give once all have come.
 fn take_in(
     alloc: Global,
     pages: &mut Marked,
-    spare: &mut Marked,
-    ahead: &mut Ahead,
+    spare: &mut Option<Marked>,
     inventory: &mut Inventory,
     node: NodeNo,
     reply: &Reply,
 ) -> Result<(), SimFault>
     requires page { IsPageReply reply.now }
     requires node { node < length inventory.old }
-    requires ahead { IsAhead pages.old ahead.old spare.old }
+    requires alike { IfSome spare.old (λ spare. spare ≡ pages.old) }
     ensures ok { OnOk result (TakesPage inventory.old pages.old node reply.now inventory.new pages.new) }
-    ensures ahead { IsAhead pages.new ahead.new spare.new }
+    ensures alike { IfSome spare.new (λ spare. spare ≡ pages.new) }
     ensures pages { OnErr result (pages.new ≡ pages.old) }
     ensures inventory { OnErr result (inventory.new ≡ inventory.old) }
     ensures memory { IfErr result (λ fault. fault ≡ SimFault.Memory) }
 {
-    match ahead {
-        Some(held) => {
-            take_again_in(alloc, pages, held, inventory, node, reply)?;
-            *ahead = None;
-            Ok(())
-        }
-        None => match take_anew(alloc, pages, spare, inventory, node, reply) {
-            Ok(()) => Ok(()),
-            Err(left) => {
-                *ahead = left;
-                Err(SimFault::Memory)
-            }
-        },
-    }
+    let mut copy = match spare.take() {
+        Some(copy) => copy,
+        None => pages.clone()?,
+    };
+    take_with(alloc, pages, &mut copy, inventory, node, reply)?;
+    *spare = Some(copy);
+    Ok(())
 }
 
 impl Arrived {
@@ -366,8 +247,7 @@ impl Arrived {
         Arrived {
             alloc,
             pages: Marked::new(alloc),
-            spare: Marked::new(alloc),
-            ahead: None,
+            spare: None,
         }
     }
 
@@ -396,7 +276,6 @@ impl Arrived {
             self.alloc,
             &mut self.pages,
             &mut self.spare,
-            &mut self.ahead,
             inventory,
             node,
             reply,

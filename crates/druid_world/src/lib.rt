@@ -1,5 +1,5 @@
-//! The world of events: nodes whose histories grow, brokers that follow them, and packets between them that may come
-//! late, again or never. What holds of all its runs.
+//! The world of events: nodes whose histories grow, brokers that follow them, and packets between
+//! them that may come late, again or never. What holds of all its runs.
 #![tactic(auto)]
 
 mod arrivals;

@@ -1,4 +1,5 @@
-//! A node and all that ever happened to it.
+//! A node and all that ever happened to it: a real node forgets, which its `History` does here too.
+//! How many changes it keeps stands with each node; `Sim::new` gives all the same.
 ghost use Rattle.std.specs.Prelude.{◌≡◌, ◌≤◌, ◌<◌, ◌+◌, true, ◌++◌, [], ◌∷◌, List, None, Some, IfOk, OnOk, OnErr, IfErr};
 ghost use Rattle.druid_shard.specs.Reply.{max_changes};
 ghost use Rattle.druid_shard.specs.declared.change.Change.{Change as Event};

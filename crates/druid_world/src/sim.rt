@@ -222,8 +222,12 @@ fn deliver_in(
 }
 
 impl Sim {
-    /// Nodes `n0`, `n1` and so on in their first incarnation, which keep the last `kept` of their changes, and brokers
-    /// that were never synced. E9 where memory runs out.
+    /// Nodes `n0`, `n1` and so on in their first incarnation, which keep the last `kept` of their
+    /// changes, and brokers that were never synced.
+    ///
+    /// # Errors
+    ///
+    /// E9.
     pub fn new(alloc: Global, nodes: usize, brokers: usize, kept: usize) -> Result<Sim, SimFault>
         requires some_nodes { 1 ≤ nodes }
         requires few_nodes { nodes ≤ max_nodes }
@@ -245,12 +249,11 @@ impl Sim {
         })
     }
 
-    /// Makes the event happen. E1 where there is no such node, then E2 where there is no such broker, then E3 where there
-    /// is no such packet of the kind, then E4 where the node's history does not take the change, the node is at its last
-    /// incarnation, or the peer was never synced with the node; E5 where a page is asked for and none of the node came to
-    /// the broker; and E9 last. Where it cannot happen all stays as it was. Where memory ran out while a broker took a
-    /// page, or what pages gave, it takes no other page of that node before that one: E9. It takes no time in the number of
-    /// events before it.
+    /// Makes the event happen. It takes no time in the number of events before it.
+    ///
+    /// # Errors
+    ///
+    /// E1; then E2; then E3; then E4, or E5 of an ask for a page; E9 last. Leaves all as it was.
     pub fn step(&mut self, event: Event) -> Result<(), SimFault>
         ensures ok { OnOk result (Next self.old event self.new) }
         ensures no_node { IsErrOf result SimFault.NoSuchNode ↔ (refusal self.old event ≡ Some SimFault.NoSuchNode) }
@@ -509,8 +512,12 @@ impl Sim {
         Ok(())
     }
 
-    /// What a broker knows, which is what each node serves at its mark; None where there is no such broker. The timelines
-    /// in it are over these sets, by `Inventory::timeline`.
+    /// What a broker knows, which is what each node serves at its mark. The timelines in it are
+    /// over these sets, by `Inventory::timeline`.
+    ///
+    /// # Errors
+    ///
+    /// None where there is no such broker.
     pub fn broker(&self, broker: usize) -> Option<&Inventory>
         ensures value { option_map (λ inventory. inventory.now) result ≡ slice_get self.now.brokers broker }
         ensures true_of_the_world { IfSome result (λ inventory. IsInventoryOf self.now.world inventory.now) }

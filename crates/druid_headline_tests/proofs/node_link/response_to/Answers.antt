@@ -1,7 +1,7 @@
 use Rattle.std.proofs.Common.{◌≡◌, ℕ, List, subst}
 use Rattle.std.specs.Prelude.{IfOk}
 use Rattle.druid_wire.specs.Written.{answer_text}
-use Rattle.druid_headline_tests.proofs.NodeLemmas.{memory_reported, answer_reported, unfrozen}
+use Rattle.druid_headline_tests.proofs.NodeLemmas.{answer_reported, unfrozen}
 use Rattle.druid_headline_tests.proofs.node_link.response_to.Goals as goal
 
 pub returns-in-Ok-clause-ok : goal.returns-in-Ok-clause-ok
@@ -11,9 +11,6 @@ returns-in-Ok-clause-ok c =
 
 pub returns-in-Ok-clause-same : goal.returns-in-Ok-clause-same
 returns-in-Ok-clause-same c = unfrozen c.args.state.now c.respond.new.self c.requires c.in-Ok.ensures.stays
-
-pub returns-in-Err-clause-ok : goal.returns-in-Err-clause-ok
-returns-in-Err-clause-ok c = memory_reported c.args.state.now c.args.request.now c.text_of-in-Err.result c.text_of-in-Err.ensures.ok
 
 pub returns-in-Err-clause-same : goal.returns-in-Err-clause-same
 returns-in-Err-clause-same c = unfrozen c.args.state.now c.respond.new.self c.requires c.in-Err.ensures.stays

@@ -5,7 +5,7 @@ use Rattle.std.specs.List.{Contains}
 use Rattle.std.specs.Result.{IfOk}
 use Rattle.std.specs.Bool.{IsTrue}
 use Rattle.druid_base.proofs.MemberLemmas.{Contains-nil}
-use Rattle.druid_members.proofs.OneLemmas.{Contains-one, one-Contains}
+use Rattle.druid_members.proofs.OneLemmas.{Contains-one, one-Contains, always_err}
 use Rattle.druid_members.specs.Slots.{Statement, Replica, NoneEmpty}
 use Rattle.druid_members.proofs.SlotLemmas.{NoneEmpty-update, HasOne, HasOne-added}
 use Rattle.druid_members.proofs.members.add_member.Goals as goal
@@ -50,3 +50,7 @@ pub returns-clause-none_empty : goal.returns-clause-none_empty
 returns-clause-none_empty c none =
     let one : HasOne c.of.result = ((c.args.node, c.args.stated), subst (λ (xs : List Replica). Contains xs (c.args.node, c.args.stated)) (sym c.of.ensures) (one-Contains _ _ refl)) in
     NoneEmpty-update c.get_mut.follows.lender-at-none c.insert.new.self c.of.result (tree.is_at (nat_cmp c.args.partition)) c.in_ok-insert.ensures.updates.0 one (subst NoneEmpty (sym c.get_mut.follows.holds-at-none) none)
+
+pub returns-in_err-insert-clause-absent : goal.returns-in_err-insert-clause-absent
+returns-in_err-insert-clause-absent c =
+    always_err c.from_residual.result _ (subst (λ (o : Option (List Replica)). Contains (map (λ (r : Replica). r.0) (unwrap_or o [])) c.args.node → ⊥) c.in_default.ensures.value (Contains-nil c.args.node))

@@ -1,4 +1,4 @@
-use Rattle.std.proofs.Common.{◌≡◌, ◌<◌, ◌≤◌, ◌⊎◌, ◌∙◌, ℕ, IsSome, sym, subst, inl, inr, arith, eq-eqb}
+use Rattle.std.proofs.Common.{◌∙◌, ℕ, IsSome, sym, subst, inl, inr, arith, eq-eqb}
 use borrow.Author.Tests.{eqb-true}
 use Rattle.std.specs.Ordering.{nat_cmp}
 use Rattle.std.specs.BTreeMap as tree

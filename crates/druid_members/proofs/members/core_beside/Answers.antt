@@ -1,6 +1,6 @@
-use Rattle.std.proofs.Common.{◌≡◌, ◌≤◌, ◌∙◌, ℕ, map, sym, ap, subst, inl, inr, arith}
+use Rattle.std.proofs.Common.{◌∙◌, map, sym, ap, inl, inr, arith}
 use Rattle.druid_base.proofs.MemberLemmas.{Contains-map, Contains-map_back}
-use Rattle.druid_members.specs.Members.{Member, core_count}
+use Rattle.druid_members.specs.Members.{Member}
 use Rattle.druid_members.specs.Slots.{member_at}
 use Rattle.druid_members.proofs.CompleteLemmas.{core_count-some}
 use Rattle.druid_members.proofs.SlotLemmas.{core_count-member}

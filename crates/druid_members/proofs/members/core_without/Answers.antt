@@ -1,8 +1,8 @@
-use Rattle.std.proofs.Common.{◌≡◌, subst}
+use Rattle.std.proofs.Common.{subst}
 use Rattle.std.specs.Map.Iter.{deref_pair}
 use Rattle.std.proofs.lemmas.Map.Iter.{rest_more, rest_all}
 use Rattle.druid_members.proofs.CountLemmas.{Entries}
-use Rattle.druid_members.proofs.CompleteLemmas.{IsCoreBeside, beside-start, beside-next, beside-bound, beside-end}
+use Rattle.druid_members.proofs.CompleteLemmas.{IsCoreBeside, beside-next, beside-bound, beside-end}
 use Rattle.druid_members.proofs.members.core_without.Goals as goal
 
 pub loop-partition-preserved : goal.loop-partition-preserved

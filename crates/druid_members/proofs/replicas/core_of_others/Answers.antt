@@ -1,4 +1,4 @@
-use Rattle.std.proofs.Common.{◌∙◌, ◌+◌, ℕ, max, sym, ap, subst}
+use Rattle.std.proofs.Common.{◌∙◌, ◌+◌, max, sym, ap, subst}
 use Rattle.druid_members.specs.Slots.{Statement}
 use Rattle.druid_members.proofs.CompleteLemmas.{IsCoreOfOthers, others-none, others-next, others-passed, others-most, others-some}
 use Rattle.druid_members.proofs.replicas.core_of_others.Goals as goal

@@ -2,4 +2,4 @@ use Rattle.std.proofs.Common.{◌≡◌, replicate, None}
 use Rattle.druid_scan.proofs.cells.empty_cells.Given as goal
 
 abbrev pub invariant-loop : goal.invariant-loop
-invariant-loop l = l.cells.items ≡ replicate l.counter None
+invariant-loop g l = l.cells.items ≡ replicate l.counter None

@@ -12,7 +12,7 @@ use Rattle.druid_timeline.specs.Pieces.{ArePieces, cut, shown_at}
 use Rattle.druid_timeline.proofs.ChunkLemmas.{IsHeld-chunk, IsCompleteIn-at, SameHeld-chunk, AddsHeld-chunk}
 use Rattle.druid_timeline.proofs.CountLemmas.{met_of}
 use Rattle.druid_timeline.proofs.SweepLemmas.{Run}
-use Rattle.druid_timeline.proofs.TurnLemmas.{alike_chunks, level_told, pieces_same}
+use Rattle.druid_timeline.proofs.TurnLemmas.{alike_chunks, level_claim, pieces_same}
 use Rattle.druid_timeline.proofs.turn.add_segment.Goals as goal
 
 pub add-requires : goal.add-requires
@@ -32,8 +32,8 @@ returns-in_err-add-clause-err c =
 pub returns-clause-pieces : goal.returns-clause-pieces
 returns-clause-pieces c =
     let at = IsCompleteIn-at c.add.new.self c.add.ensures.chunks (group_of c.args.descriptor.now.id) in
-    let told = c.is_complete_with-is_complete.ensures.complete (members_at c.add.new.self (group_of c.args.descriptor.now.id)) c.args.node c.in_ok-add.ensures.added in
-    let is : IsTrue c.is_complete_with-is_complete.result ↔ IsCompleteIn (held_in c.add.new.self) (group_of c.args.descriptor.now.id) = (λ e. at.1 (told.0 e), λ h. told.1 (at.0 h)) in
+    let claim = c.is_complete_with-is_complete.ensures.complete (members_at c.add.new.self (group_of c.args.descriptor.now.id)) c.args.node c.in_ok-add.ensures.added in
+    let is : IsTrue c.is_complete_with-is_complete.result ↔ IsCompleteIn (held_in c.add.new.self) (group_of c.args.descriptor.now.id) = (λ e. at.1 (claim.0 e), λ h. claim.1 (at.0 h)) in
     let alike = alike_chunks c.args.chunks.now c.add.new.self (group_of c.args.descriptor.now.id) c.add.ensures.was c.add.ensures.chunks c.add.ensures.others in
     let items = c.settle.ensures ∙ ap (λ (rs : List Run). settled rs c.in_ok-edit.edit) c.prepare_edit.ensures.same in
     subst (λ (rs : List Run). ArePieces (held_in c.add.new.self) (map shown_at rs)) (sym items) ((subst (λ (g : Group). ArePiecesThen (held_in c.args.chunks.now) g c.is_complete_with-is_complete.result (map shown_at (settled c.args.runs.now.items c.in_ok-edit.edit))) (ap group_of c.id.ensures.value) c.in_ok-edit.ensures.pieces) (held_in c.add.new.self) alike is)
@@ -66,6 +66,6 @@ returns-clause-met c not pieces are =
 pub returns-clause-level : goal.returns-clause-level
 returns-clause-level c level =
     let at = IsCompleteIn-at c.add.new.self c.add.ensures.chunks (group_of c.args.descriptor.now.id) in
-    let told = c.is_complete_with-is_complete.ensures.complete (members_at c.add.new.self (group_of c.args.descriptor.now.id)) c.args.node c.in_ok-add.ensures.added in
-    let is : IsTrue c.is_complete_with-is_complete.result ↔ IsCompleteIn (held_in c.add.new.self) (group_of c.args.descriptor.now.id) = (λ e. at.1 (told.0 e), λ h. told.1 (at.0 h)) in
-    (subst (λ (g : Group). (IsTrue c.is_complete_with-is_complete.result ↔ IsCompleteIn (held_in c.args.chunks.now) g) → c.prepare_edit.new.meter ≡ c.args.meter.now) (ap group_of c.id.ensures.value) c.prepare_edit.ensures.level) (level_told (IsCompleteIn (held_in c.args.chunks.now) (group_of c.args.descriptor.now.id)) (IsCompleteIn (held_in c.add.new.self) (group_of c.args.descriptor.now.id)) c.is_complete_with-is_complete.result is level)
+    let claim = c.is_complete_with-is_complete.ensures.complete (members_at c.add.new.self (group_of c.args.descriptor.now.id)) c.args.node c.in_ok-add.ensures.added in
+    let is : IsTrue c.is_complete_with-is_complete.result ↔ IsCompleteIn (held_in c.add.new.self) (group_of c.args.descriptor.now.id) = (λ e. at.1 (claim.0 e), λ h. claim.1 (at.0 h)) in
+    (subst (λ (g : Group). (IsTrue c.is_complete_with-is_complete.result ↔ IsCompleteIn (held_in c.args.chunks.now) g) → c.prepare_edit.new.meter ≡ c.args.meter.now) (ap group_of c.id.ensures.value) c.prepare_edit.ensures.level) (level_claim (IsCompleteIn (held_in c.args.chunks.now) (group_of c.args.descriptor.now.id)) (IsCompleteIn (held_in c.add.new.self) (group_of c.args.descriptor.now.id)) c.is_complete_with-is_complete.result is level)

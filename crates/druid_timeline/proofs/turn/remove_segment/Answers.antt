@@ -10,7 +10,7 @@ use Rattle.druid_timeline.specs.Pieces.{ArePieces, shown_at}
 use Rattle.druid_timeline.proofs.ChunkLemmas.{IsHeld-chunk, IsCompleteIn-at, SameHeld-chunk, RemovesHeld-chunk, RemovesOneHeld-chunk}
 use Rattle.druid_timeline.proofs.CountLemmas.{met_of}
 use Rattle.druid_timeline.proofs.SweepLemmas.{Run}
-use Rattle.druid_timeline.proofs.TurnLemmas.{alike_chunks, level_told, pieces_same}
+use Rattle.druid_timeline.proofs.TurnLemmas.{alike_chunks, level_claim, pieces_same}
 use Rattle.druid_timeline.proofs.turn.remove_segment.Goals as goal
 
 pub remove-requires : goal.remove-requires
@@ -30,8 +30,8 @@ returns-in_err-remove-clause-err c =
 pub returns-clause-pieces : goal.returns-clause-pieces
 returns-clause-pieces c =
     let at = IsCompleteIn-at c.remove.new.self c.remove.ensures.chunks (group_of c.args.id.now) in
-    let told = c.is_complete_without-is_complete.ensures.complete (members_at c.remove.new.self (group_of c.args.id.now)) c.in_ok-remove.ensures.removed in
-    let is : IsTrue c.is_complete_without-is_complete.result ↔ IsCompleteIn (held_in c.remove.new.self) (group_of c.args.id.now) = (λ e. at.1 (told.0 e), λ h. told.1 (at.0 h)) in
+    let claim = c.is_complete_without-is_complete.ensures.complete (members_at c.remove.new.self (group_of c.args.id.now)) c.in_ok-remove.ensures.removed in
+    let is : IsTrue c.is_complete_without-is_complete.result ↔ IsCompleteIn (held_in c.remove.new.self) (group_of c.args.id.now) = (λ e. at.1 (claim.0 e), λ h. claim.1 (at.0 h)) in
     let alike = alike_chunks c.args.chunks.now c.remove.new.self (group_of c.args.id.now) c.remove.ensures.was c.remove.ensures.chunks c.remove.ensures.others in
     let items = c.settle.ensures ∙ ap (λ (rs : List Run). settled rs c.in_ok-edit.edit) c.prepare_edit.ensures.same in
     subst (λ (rs : List Run). ArePieces (held_in c.remove.new.self) (map shown_at rs)) (sym items) (c.in_ok-edit.ensures.pieces (held_in c.remove.new.self) alike is)
@@ -57,6 +57,6 @@ returns-clause-met c not pieces are =
 pub returns-clause-level : goal.returns-clause-level
 returns-clause-level c level =
     let at = IsCompleteIn-at c.remove.new.self c.remove.ensures.chunks (group_of c.args.id.now) in
-    let told = c.is_complete_without-is_complete.ensures.complete (members_at c.remove.new.self (group_of c.args.id.now)) c.in_ok-remove.ensures.removed in
-    let is : IsTrue c.is_complete_without-is_complete.result ↔ IsCompleteIn (held_in c.remove.new.self) (group_of c.args.id.now) = (λ e. at.1 (told.0 e), λ h. told.1 (at.0 h)) in
-    c.prepare_edit.ensures.level (level_told (IsCompleteIn (held_in c.args.chunks.now) (group_of c.args.id.now)) (IsCompleteIn (held_in c.remove.new.self) (group_of c.args.id.now)) c.is_complete_without-is_complete.result is level)
+    let claim = c.is_complete_without-is_complete.ensures.complete (members_at c.remove.new.self (group_of c.args.id.now)) c.in_ok-remove.ensures.removed in
+    let is : IsTrue c.is_complete_without-is_complete.result ↔ IsCompleteIn (held_in c.remove.new.self) (group_of c.args.id.now) = (λ e. at.1 (claim.0 e), λ h. claim.1 (at.0 h)) in
+    c.prepare_edit.ensures.level (level_claim (IsCompleteIn (held_in c.args.chunks.now) (group_of c.args.id.now)) (IsCompleteIn (held_in c.remove.new.self) (group_of c.args.id.now)) c.is_complete_without-is_complete.result is level)

@@ -13,7 +13,7 @@ use Rattle.druid_timeline.specs.Pieces.{ArePieces, cut, shown_at}
 use Rattle.druid_timeline.proofs.ChunkLemmas.{IsHeld-chunk, IsCompleteIn-at, SameHeld-chunk, RemovesHeld-chunk, RemovesOneHeld-chunk}
 use Rattle.druid_timeline.proofs.CountLemmas.{met_of}
 use Rattle.druid_timeline.proofs.SweepLemmas.{Run}
-use Rattle.druid_timeline.proofs.TurnLemmas.{alike_chunks, level_told, pieces_same}
+use Rattle.druid_timeline.proofs.TurnLemmas.{alike_chunks, level_claim, pieces_same}
 use Rattle.druid_timeline.proofs.UndoLemmas.{TakesBack-more}
 use Rattle.druid_timeline.proofs.undo.remove_logged.Goals as goal
 
@@ -34,8 +34,8 @@ returns-in_err-remove-clause-err c =
 pub returns-clause-pieces : goal.returns-clause-pieces
 returns-clause-pieces c =
     let at = IsCompleteIn-at c.remove.new.self.now c.remove.ensures.chunks (group_of c.args.id.now) in
-    let told = (subst (λ (cs : List Chunk). (new : List Member) → RemovesPlace (members_at cs (group_of c.args.id.now)) new c.args.id.now.partition c.args.node → IsTrue c.is_complete_without-is_complete.result ↔ IsComplete new) c.chunks.ensures c.is_complete_without-is_complete.ensures.complete) (members_at c.remove.new.self.now (group_of c.args.id.now)) c.in_ok-remove.ensures.removed in
-    let is : IsTrue c.is_complete_without-is_complete.result ↔ IsCompleteIn (held_in c.remove.new.self.now) (group_of c.args.id.now) = (λ e. at.1 (told.0 e), λ h. told.1 (at.0 h)) in
+    let claim = (subst (λ (cs : List Chunk). (new : List Member) → RemovesPlace (members_at cs (group_of c.args.id.now)) new c.args.id.now.partition c.args.node → IsTrue c.is_complete_without-is_complete.result ↔ IsComplete new) c.chunks.ensures c.is_complete_without-is_complete.ensures.complete) (members_at c.remove.new.self.now (group_of c.args.id.now)) c.in_ok-remove.ensures.removed in
+    let is : IsTrue c.is_complete_without-is_complete.result ↔ IsCompleteIn (held_in c.remove.new.self.now) (group_of c.args.id.now) = (λ e. at.1 (claim.0 e), λ h. claim.1 (at.0 h)) in
     let alike = alike_chunks c.args.chunks.now.now c.remove.new.self.now (group_of c.args.id.now) c.remove.ensures.was c.remove.ensures.chunks c.remove.ensures.others in
     let items = c.settle_logged.ensures.runs ∙ ap (λ (rs : List Run). settled rs c.in_ok-edit.edit) c.prepare_edit.ensures.same in
     subst (λ (rs : List Run). ArePieces (held_in c.remove.new.self.now) (map shown_at rs)) (sym items) ((subst (λ (cs : List Chunk). ArePiecesThen (held_in cs) (group_of c.args.id.now) c.is_complete_without-is_complete.result (map shown_at (settled c.args.runs.now.items c.in_ok-edit.edit))) c.chunks-2.ensures c.in_ok-edit.ensures.pieces) (held_in c.remove.new.self.now) alike is)
@@ -77,9 +77,9 @@ returns-clause-met c not pieces are =
 pub returns-clause-level : goal.returns-clause-level
 returns-clause-level c level =
     let at = IsCompleteIn-at c.remove.new.self.now c.remove.ensures.chunks (group_of c.args.id.now) in
-    let told = (subst (λ (cs : List Chunk). (new : List Member) → RemovesPlace (members_at cs (group_of c.args.id.now)) new c.args.id.now.partition c.args.node → IsTrue c.is_complete_without-is_complete.result ↔ IsComplete new) c.chunks.ensures c.is_complete_without-is_complete.ensures.complete) (members_at c.remove.new.self.now (group_of c.args.id.now)) c.in_ok-remove.ensures.removed in
-    let is : IsTrue c.is_complete_without-is_complete.result ↔ IsCompleteIn (held_in c.remove.new.self.now) (group_of c.args.id.now) = (λ e. at.1 (told.0 e), λ h. told.1 (at.0 h)) in
-    (subst (λ (cs : List Chunk). (IsTrue c.is_complete_without-is_complete.result ↔ IsCompleteIn (held_in cs) (group_of c.args.id.now)) → c.prepare_edit.new.meter ≡ c.args.meter.now) c.chunks-2.ensures c.prepare_edit.ensures.level) (level_told (IsCompleteIn (held_in c.args.chunks.now.now) (group_of c.args.id.now)) (IsCompleteIn (held_in c.remove.new.self.now) (group_of c.args.id.now)) c.is_complete_without-is_complete.result is level)
+    let claim = (subst (λ (cs : List Chunk). (new : List Member) → RemovesPlace (members_at cs (group_of c.args.id.now)) new c.args.id.now.partition c.args.node → IsTrue c.is_complete_without-is_complete.result ↔ IsComplete new) c.chunks.ensures c.is_complete_without-is_complete.ensures.complete) (members_at c.remove.new.self.now (group_of c.args.id.now)) c.in_ok-remove.ensures.removed in
+    let is : IsTrue c.is_complete_without-is_complete.result ↔ IsCompleteIn (held_in c.remove.new.self.now) (group_of c.args.id.now) = (λ e. at.1 (claim.0 e), λ h. claim.1 (at.0 h)) in
+    (subst (λ (cs : List Chunk). (IsTrue c.is_complete_without-is_complete.result ↔ IsCompleteIn (held_in cs) (group_of c.args.id.now)) → c.prepare_edit.new.meter ≡ c.args.meter.now) c.chunks-2.ensures c.prepare_edit.ensures.level) (level_claim (IsCompleteIn (held_in c.args.chunks.now.now) (group_of c.args.id.now)) (IsCompleteIn (held_in c.remove.new.self.now) (group_of c.args.id.now)) c.is_complete_without-is_complete.result is level)
 
 pub returns-in_err-edit-clause-back : goal.returns-in_err-edit-clause-back
 returns-in_err-edit-clause-back c =

@@ -1,18 +1,14 @@
-use Rattle.std.proofs.Common.{◌∙◌, ◌≡◌, ◌↔◌, ◌⊎◌, ℕ, Bool, false, Result, Ok, Err, List, max, sym, ap, refl, subst, inl, inr}
+use Rattle.std.proofs.Common.{◌∙◌, ◌≡◌, ◌↔◌, ◌⊎◌, ℕ, Bool, false, List, max, sym, ap, refl, subst, inl, inr}
 use Rattle.std.specs.Bool.{IsTrue}
 use Rattle.std.specs.List.{Contains}
-use Rattle.std.specs.Result.{OnErr}
 use Rattle.druid_segid.specs.Identifier.{Identifier}
 use Rattle.std.proofs.lemmas.Bool.{false≢true}
 use Rattle.druid_members.specs.Members.{core_count, Member, HoldsPlace, Adds, SameMembers, member_of}
 use Rattle.druid_members.specs.Slots.{Statement, member_at, members_in}
+use Rattle.druid_members.proofs.OneLemmas.{always_err}
 use Rattle.druid_members.proofs.CountLemmas.{kept_below-same}
 use Rattle.druid_members.proofs.SlotLemmas.{Adds-slot, SameMembers-slot, HoldsPlace-slot, core_count-adds, core_count-same, HasMember-same}
 use Rattle.druid_members.proofs.members.Members.add.Goals as goal
-
-always_err : {T E : Type 0} (r : Result T E) (P : Type 0) → P → OnErr r P
-always_err (Ok x) P p = tt
-always_err (Err e) P p = p
 
 -- a value is added exactly where the node does not serve the partition
 held_same : (added : Bool) (members value : List Member) (slot : List ℕ) (p q n : ℕ) → members ≡ value → p ≡ q → HoldsPlace members p n ↔ Contains slot n → IsTrue added ↔ (Contains slot n → ⊥) → IsTrue added ↔ (HoldsPlace value q n → ⊥)
@@ -73,3 +69,12 @@ returns-else-added-clause-same c =
     let e = c.add_member.ensures in
     let same = SameMembers-slot c.self.inside.slots c.add_member.new.slots c.partition-partition.result e.was_ordered e.ordered e.others (unchanged c.in_ok-added.added _ c.if-added.false c.in_ok-added.ensures.same) in
     inr (subst (λ (ms : List Member). SameMembers ms (members_in c.add_member.new.slots.entries)) c.self.view_is same)
+
+pub returns-in_err-added-clause-absent : goal.returns-in_err-added-clause-absent
+returns-in_err-added-clause-absent c =
+    let p = c.partition-partition.result in
+    let at = c.partition-partition.ensures.value ∙ ap (λ (id : Identifier). id.partition) c.id.ensures.value in
+    let slot = HoldsPlace-slot c.self.inside.slots p c.args.node c.add_member.ensures.was_ordered in
+    let absent : HoldsPlace (members_in c.self.inside.slots.entries) p c.args.node → ⊥ = λ held. c.in_err-added.ensures.absent (slot.0 held) in
+    always_err c.from_residual.result _ (subst (λ (q : ℕ). HoldsPlace c.args.self.now q c.args.node → ⊥) at
+    (subst (λ (ms : List Member). HoldsPlace ms p c.args.node → ⊥) c.self.view_is absent))

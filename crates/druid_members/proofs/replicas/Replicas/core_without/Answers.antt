@@ -1,4 +1,4 @@
-use Rattle.std.proofs.Common.{◌≤◌, ◌∙◌, List, sym, subst}
+use Rattle.std.proofs.Common.{◌∙◌, List, sym, subst}
 use Rattle.std.specs.List.{Contains, zip}
 use Rattle.druid_members.specs.Slots.{Replica}
 use Rattle.druid_members.proofs.replicas.Replicas.core_without.Goals as goal

@@ -1,6 +1,7 @@
 use Rattle.std.proofs.Common.{◌≡◌, ◌↔◌, ◌⊎◌, ◌∙◌, ℕ, List, map, sym, subst, inl, inr}
 use Rattle.std.specs.Bool.{IsTrue}
 use Rattle.std.specs.List.{Contains}
+use Rattle.druid_members.proofs.OneLemmas.{always_err}
 use Rattle.std.proofs.lemmas.Bool.{false≢true}
 use Rattle.druid_members.specs.Slots.{Statement, Replica, Serves}
 use Rattle.druid_members.proofs.PairLemmas.{Serves-adds, Serves-there}
@@ -57,3 +58,7 @@ invariant_of-self-in-Err c =
 pub returns-in-Ok-clause-added : goal.returns-in-Ok-clause-added
 returns-in-Ok-clause-added c added x =
     subst (λ (rs : List Replica). Contains c.add.new.self x ↔ ((x ≡ (c.args.node, c.args.stated)) ⊎ Contains rs x)) c.self.view_is (c.in-Ok.ensures.added added x)
+
+pub returns-in_err-insert_node-clause-absent : goal.returns-in_err-insert_node-clause-absent
+returns-in_err-insert_node-clause-absent c =
+    always_err c.from_residual.result _ (subst (λ (rs : List Replica). Contains (map (λ (r : Replica). r.0) rs) c.args.node → ⊥) c.self.view_is (λ there. false≢true (sym c.if-holds.false ∙ c.holds.ensures.1 there)))

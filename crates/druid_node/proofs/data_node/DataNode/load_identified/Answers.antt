@@ -30,7 +30,7 @@ returns-in-Err-found_segment-clause-counted g c =
 pub returns-in-Ok-found_segment-clause-ok : goal.returns-in-Ok-found_segment-clause-ok
 returns-in-Ok-found_segment-clause-ok g c honest =
     let given = ap (file_at c.args.name.now) (sym (c.in-Ok.ensures.found honest)) ∙ c.in-Ok-found_segment.ensures.ok in
-    IfOk-weaker c.load.result _ _ (λ loaded is. (c.in-Ok-found_segment.segment, given, is.0, is.1)) c.load.ensures.loaded
+    IfOk-weaker c.load.result _ _ (λ loaded is. (c.in-Ok-found_segment.segment, given, is.0, is.1, is.2)) c.load.ensures.loaded
 
 pub returns-in-Ok-found_segment-clause-bytes : goal.returns-in-Ok-found_segment-clause-bytes
 returns-in-Ok-found_segment-clause-bytes g c honest =

@@ -1,55 +1,51 @@
-use Rattle.std.proofs.Common.{◌∙◌, refl, sym, ap, map, option_map, length}
+use Rattle.std.proofs.Common.{◌∙◌, refl, sym, ap, option_map, length, arith}
+use Rattle.std.specs.BTreeSet.{contains}
 use Rattle.druid_chunks.proofs.EditLemmas.{always_err}
-use Rattle.druid_link.specs.Links.{came_of}
-use Rattle.druid_scatter.specs.Waiting.{State, sub_if, wanted_of}
-use Rattle.druid_scatter.proofs.StateLemmas.{as_many_subs, wanted_there, subs_again, round_ok, made_by, answered_there}
-use Rattle.druid_scatter.proofs.AskedLemmas.{round_err, unsent}
-use Rattle.druid_scatter.proofs.MadeLemmas.{matched}
+use Rattle.druid_scatter.specs.Waiting.{State, at_cmp}
+use Rattle.druid_scatter.proofs.AskedLemmas.{unsent}
+use Rattle.druid_scatter.proofs.SettledLemmas.{asks_there, as_many_asks, asks_of_query, places_written, round_ok, round_lacks, merge_lacks}
 use Rattle.druid_scatter.proofs.gathering.Gathering.round.Goals as goal
 
-pub ask-requires-after_bounds : goal.ask-requires-after_bounds
-ask-requires-after_bounds g c κs within =
-    sym (ap length c.deref-2.ensures.value ∙ as_many_subs _ c.in_ok-subs.subs.items (length c.args.links.now) c.in_ok-subs.ensures)
+pub ask_all-requires-clause-asked : goal.ask_all-requires-clause-asked
+ask_all-requires-clause-asked g c κs within =
+    let asks = asks_there c.args.query.now c.args.round (length c.args.links.now) c.args.self c.deref.result.now c.in_ok-asks.asks.items c.deref-2.result.now
+    (c.deref.ensures.value ∙ ap (λ (s : State). s.waiting) c.self.view_is) c.deref-2.ensures.value c.in_ok-asks.ensures in
+    sym (as_many_asks c.args.query.now c.args.round (length c.args.links.now) c.args.self c.deref-2.result.now asks)
 
-pub settle_round-requires-clause-subs : goal.settle_round-requires-clause-subs
-settle_round-requires-clause-subs g c =
-    let asked = wanted_there c.args.query.now c.args.round (length c.args.links.now) c.deref.result.now c.args.self.waiting c.in_ok-subs.subs.items
-    (c.deref.ensures.value ∙ ap (λ (s : State). s.waiting) c.self.view_is) c.in_ok-subs.ensures in
-    subs_again (λ node. sub_if c.args.query.now (wanted_of c.args.round c.args.self.waiting node)) c.in_ok-subs.subs.items c.deref-3.result.now (length c.args.links.now)
-    c.deref-3.ensures.value asked
-
-pub settle_round-requires-clause-matched : goal.settle_round-requires-clause-matched
-settle_round-requires-clause-matched g c =
-    matched g.L.Link.exchanges c.args.links.now c.deref-3.result.now (map (option_map came_of) c.deref-4.result.now) c.ask.new.links
-    (answered_there g.L.Link.exchanges (option_map came_of) c.args.links.now c.ask.new.links c.deref-2.result.now c.deref-3.result.now c.in_ok-came.came.items c.deref-4.result.now
-    (c.deref-2.ensures.value ∙ sym c.deref-3.ensures.value) c.deref-4.ensures.value c.in_ok-came.ensures.ok)
+pub ask_all-requires-clause-of_query : goal.ask_all-requires-clause-of_query
+ask_all-requires-clause-of_query g c κs within =
+    let asks = asks_there c.args.query.now c.args.round (length c.args.links.now) c.args.self c.deref.result.now c.in_ok-asks.asks.items c.deref-2.result.now
+    (c.deref.ensures.value ∙ ap (λ (s : State). s.waiting) c.self.view_is) c.deref-2.ensures.value c.in_ok-asks.ensures in
+    asks_of_query c.args.query.now c.args.round (length c.args.links.now) c.args.self c.deref-2.result.now asks
 
 pub returns-clause-ok : goal.returns-clause-ok
 returns-clause-ok g c =
-    let asked = wanted_there c.args.query.now c.args.round (length c.args.links.now) c.deref.result.now c.args.self.waiting c.in_ok-subs.subs.items
-    (c.deref.ensures.value ∙ ap (λ (s : State). s.waiting) c.self.view_is) c.in_ok-subs.ensures in
-    let wanted = wanted_of c.args.round c.args.self.waiting in
-    round_ok g.L.Link.exchanges c.args.query.now c.args.round c.args.links.now c.ask.new.links c.args.self c.settle_round.result c.in_ok-subs.subs.items c.deref-3.result.now
-    (map (option_map came_of) c.deref-4.result.now) c.deref-3.ensures.value asked
-    (made_by g.L.Link.exchanges c.args.query.now wanted c.args.links.now c.ask.new.links c.in_ok-subs.subs.items c.deref-3.result.now (map (option_map came_of) c.deref-4.result.now)
-    c.deref-3.ensures.value asked
-    (answered_there g.L.Link.exchanges (option_map came_of) c.args.links.now c.ask.new.links c.deref-2.result.now c.deref-3.result.now c.in_ok-came.came.items c.deref-4.result.now
-    (c.deref-2.ensures.value ∙ sym c.deref-3.ensures.value) c.deref-4.ensures.value c.in_ok-came.ensures.ok))
-    c.settle_round.ensures.goes
+    let asks = asks_there c.args.query.now c.args.round (length c.args.links.now) c.args.self c.deref.result.now c.in_ok-asks.asks.items c.deref-2.result.now
+    (c.deref.ensures.value ∙ ap (λ (s : State). s.waiting) c.self.view_is) c.deref-2.ensures.value c.in_ok-asks.ensures in
+    let many = as_many_asks c.args.query.now c.args.round (length c.args.links.now) c.args.self c.deref-2.result.now asks in
+    round_ok g.L.Link.exchanges c.args.query.now c.args.round (option_map (contains at_cmp)) c.args.links.now c.ask_all.new.links c.args.self c.deref-2.result.now c.ask_all.new.missed
+    c.deref-3.result.now c.in_ok-told.told c.settle.result asks c.in_ok-told.ensures
+    (places_written g.L.Link.exchanges c.args.query.now (option_map (contains at_cmp)) c.args.links.now c.ask_all.new.links c.deref-2.result.now c.in_ok-missed.missed.len
+    c.in_ok-missed.missed.items c.ask_all.new.missed c.deref-3.result.now c.in_ok-told.told c.in_ok-told.ensures (omega (arith, many, c.in_ok-missed.ensures)) (omega arith) c.deref-3.ensures.value)
+    c.settle.ensures.kept c.settle.ensures.merged
 
 pub returns-clause-err : goal.returns-clause-err
 returns-clause-err g c =
-    let asked = wanted_there c.args.query.now c.args.round (length c.args.links.now) c.deref.result.now c.args.self.waiting c.in_ok-subs.subs.items
-    (c.deref.ensures.value ∙ ap (λ (s : State). s.waiting) c.self.view_is) c.in_ok-subs.ensures in
-    let wanted = wanted_of c.args.round c.args.self.waiting in
-    let came = map (option_map came_of) c.deref-4.result.now in
-    let answered = answered_there g.L.Link.exchanges (option_map came_of) c.args.links.now c.ask.new.links c.deref-2.result.now c.deref-3.result.now c.in_ok-came.came.items c.deref-4.result.now
-    (c.deref-2.ensures.value ∙ sym c.deref-3.ensures.value) c.deref-4.ensures.value c.in_ok-came.ensures.ok in
-    round_err g.L.Link.exchanges c.args.query.now c.args.round c.args.links.now c.ask.new.links c.args.self c.settle_round.result c.in_ok-subs.subs.items c.deref-3.result.now came
-    c.deref-3.ensures.value asked answered c.settle_round.ensures.err
+    let asks = asks_there c.args.query.now c.args.round (length c.args.links.now) c.args.self c.deref.result.now c.in_ok-asks.asks.items c.deref-2.result.now
+    (c.deref.ensures.value ∙ ap (λ (s : State). s.waiting) c.self.view_is) c.deref-2.ensures.value c.in_ok-asks.ensures in
+    merge_lacks g.L.Link.exchanges c.args.query.now c.args.round (option_map (contains at_cmp)) c.args.links.now c.ask_all.new.links c.args.self c.deref-2.result.now c.ask_all.new.missed
+    c.in_ok-told.told c.settle.result asks c.in_ok-told.ensures c.settle.ensures.err
 
-pub returns-in_err-subs-clause-err : goal.returns-in_err-subs-clause-err
-returns-in_err-subs-clause-err g c = always_err c.from_residual.result _ (unsent g.L.Link.exchanges c.args.query.now c.args.round c.args.self c.args.links.now c.args.links.now refl)
+pub returns-in_err-asks-clause-err : goal.returns-in_err-asks-clause-err
+returns-in_err-asks-clause-err g c = always_err c.from_residual.result _ (unsent g.L.Link.exchanges c.args.query.now c.args.round c.args.self c.args.links.now c.args.links.now refl)
 
-pub returns-in_err-came-clause-err : goal.returns-in_err-came-clause-err
-returns-in_err-came-clause-err g c = always_err c.from_residual-in_err-came.result _ (unsent g.L.Link.exchanges c.args.query.now c.args.round c.args.self c.args.links.now c.ask.new.links c.in_err-came.ensures.err)
+pub returns-in_err-missed-clause-err : goal.returns-in_err-missed-clause-err
+returns-in_err-missed-clause-err g c =
+    always_err c.from_residual-in_err-missed.result _ (unsent g.L.Link.exchanges c.args.query.now c.args.round c.args.self c.args.links.now c.args.links.now refl)
+
+pub returns-in_err-told-clause-err : goal.returns-in_err-told-clause-err
+returns-in_err-told-clause-err g c =
+    let asks = asks_there c.args.query.now c.args.round (length c.args.links.now) c.args.self c.deref.result.now c.in_ok-asks.asks.items c.deref-2.result.now
+    (c.deref.ensures.value ∙ ap (λ (s : State). s.waiting) c.self.view_is) c.deref-2.ensures.value c.in_ok-asks.ensures in
+    always_err c.from_residual-in_err-told.result _
+    (round_lacks g.L.Link.exchanges c.args.query.now c.args.round c.args.links.now c.ask_all.new.links c.args.self c.deref-2.result.now asks c.in_err-told.ensures)
