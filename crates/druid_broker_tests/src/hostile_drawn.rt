@@ -118,23 +118,33 @@ const VALUES: &str = "true\n[\"w\"]\n{\"inventoryInitialized\":true}\n[]";
 // What it knows of a node.
 const ENTRY: &str = "{\"counter\":{\"counter\":1,\"hash\":1},\"from\":null,\"requests\":[{";
 
-// Whether a query's answer has the one row that there is, by its value or by a dimension that it has not.
-fn counts_one(body: &str) -> bool {
+// Whether an event has the one row's value, or null of a dimension that it has not, where the query names a dimension.
+fn names_one(query: &str, event: &str) -> bool {
+    event.contains(":\"a\"") || event.contains(":null") || !query.contains("\"dimensions\":[\"")
+}
+
+// Whether an event counts one row, where the query has an aggregator.
+fn counts_one(query: &str, event: &str) -> bool {
+    event.contains(":1,") || event.contains(":1}") || !query.contains("\"aggregations\":[{")
+}
+
+// Whether a body is the answer to a query over the one row that there is.
+fn is_one_row(query: &str, body: &str) -> bool {
     body.split("{\"event\":{").count() == 2
         && body.ends_with(",\"version\":\"v1\"}]")
-        && (body.contains(":1,") || body.contains(":1}"))
-        && (body.contains(":\"a\"") || body.contains(":null"))
+        && names_one(query, body)
+        && counts_one(query, body)
 }
 
 // Whether a body may come with status 200.
-fn is_value(body: &str) -> bool {
+fn is_value(request: &str, body: &str) -> bool {
     VALUES.lines().any(|value| value == body)
         || body.starts_with(ENTRY)
-        || body.starts_with("[{\"event\":{") && counts_one(body)
+        || body.starts_with("[{\"event\":{") && is_one_row(request, body)
 }
 
-// Whether a response is one of those that a broker may give, of the status that is reported.
-fn is_lawful(rt: &impl Abort, alloc: Global, code: u16, written: &[u8]) -> bool {
+// Whether a response is one of those that a broker may give to a request, of the status that is reported.
+fn is_lawful(rt: &impl Abort, alloc: Global, request: &[u8], code: u16, written: &[u8]) -> bool {
     let Ok((status, body)) = response_of(written) else {
         return false;
     };
@@ -143,7 +153,7 @@ fn is_lawful(rt: &impl Abort, alloc: Global, code: u16, written: &[u8]) -> bool 
         return false;
     }
     if code == 200 {
-        return is_value(body);
+        return is_value(str::from_utf8(request).unwrap_or(""), body);
     }
     let text = format!(in alloc; "{code} {body}").expect(rt, "memory");
     LAWFUL.lines().any(|front| text.as_str().starts_with(front))
@@ -159,7 +169,7 @@ fn serves<R: Handle, J: Publication>(
     let request = drawn_request(&rt, alloc, draws);
     let mut written = Vec::new(alloc);
     match try_message(alloc, cluster, 1, &request, &mut written) {
-        Ok(code) => is_lawful(&rt, alloc, code, &written),
+        Ok(code) => is_lawful(&rt, alloc, &request, code, &written),
         Err(WireFault::Cut) => written.is_empty(),
         Err(_) => false,
     }

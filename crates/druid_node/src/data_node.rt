@@ -203,8 +203,7 @@ impl<I: Incarnation> DataNode<I> {
     /// # Errors
     ///
     /// N1, or N9 of the read; then N6; N2 with F1 to F6; N3; then N8; then those of
-    /// `NodeState::load`. N9 may come in place of N3 and what follows it (that it comes of no bytes
-    /// which N2 refuses, and N8 before N4, are clauses of private calls). Leaves `seen`, the files
+    /// `NodeState::load`. N9 may come in place of N3 and what follows it. Leaves `seen`, the files
     /// of the folder, and the node's state (a clause of a private call).
     pub fn load_file<F: Folder>(
         &self,
@@ -278,8 +277,8 @@ impl<I: Incarnation> DataNode<I> {
     ///
     /// # Errors
     ///
-    /// N7; then N8; then the others of `NodeState::place_tombstone` (by a clause of a private
-    /// call). Leaves `seen`, and the node's state likewise.
+    /// N7; then N8; then the others of `NodeState::place_tombstone`. Leaves `seen`, and the node's
+    /// state (a clause of a private call).
     pub fn place_tombstone(
         &self,
         rt: &impl Wait,
@@ -304,8 +303,8 @@ impl<I: Incarnation> DataNode<I> {
     ///
     /// # Errors
     ///
-    /// N8; then those of `NodeState::drop_segment` (by a clause of a private call). Leaves `seen`,
-    /// and the node's state likewise.
+    /// N8; then those of `NodeState::drop_segment`. Leaves `seen`, and the node's state (a clause of
+    /// a private call).
     pub fn drop_segment(
         &self,
         rt: &impl Wait,

@@ -73,7 +73,7 @@ impl<I: Incarnation> DataNode<I> {
     /// N5 with X1, X2 or X9 where no request was read, and nothing is written; then N8, and nothing
     /// is written, and the reader stands after the request; then N5 with X3 or X9 of the writer,
     /// which has some front of the answer, and not the whole, and the set that was asked for may be
-    /// frozen. Leaves `seen`. (That 500 comes only of answers that allocate no clause says.)
+    /// frozen. Leaves `seen`.
     pub fn serve_one<R: BufRead, W: Write>(
         &self,
         rt: &(impl Wait + Threads),

@@ -12,6 +12,7 @@ use Rattle.serde_json.specs.Read.{read, max_depth, number_of, of_json, of_items}
 use Rattle.druid_filter.specs.Values.{nullable_texts_of}
 use Rattle.druid_base.specs.Fields.{text_or_null}
 use Rattle.druid_base.proofs.MemberLemmas.{Contains-nil}
+use Rattle.druid_base.proofs.OptionLemmas.{chained}
 use Rattle.druid_query.specs.SubQuery.{SubQuery}
 use Rattle.druid_query.specs.declared.aggregator.Aggregator.{Aggregator}
 use Rattle.druid_query.specs.declared.aggregator.AggregatorKind.{AggregatorKind}
@@ -24,11 +25,6 @@ use Rattle.druid_partial_text.specs.Answers.{IsAnswerOf}
 use Rattle.druid_partial_text.specs.Read.{instant_of, integer_at, number_or_null, parts_at, group_of, group_at}
 use Rattle.druid_partial_text.proofs.MadeLemmas.{map-append}
 use Rattle.druid_partial_text.specs.Spelt.{Spells, SpellsRest, SpellsItems, SpellsAnswer}
-
--- what a chain of two gives, its first gave for some x
-and_then_some : {A B : Type 0} (f : A → Option B) (o : Option A) (y : B) → option_and_then f o ≡ Some y → (x : A) × (o ≡ Some x) × (f x ≡ Some y)
-and_then_some f None y is = absurd (cc)
-and_then_some f (Some x) y is = (x, refl, is)
 
 -- ---- one token
 
@@ -43,7 +39,7 @@ spells_no_text old new is = record { value = json.null; content = null; tokens =
 pub spells_number : (old new : List Token) (s : List ℕ) (n : ℤ) → old ≡ Token.number s ∷ new → option_and_then as_i64 (number_of s) ≡ Some n → Spells number_or_null 0 old new (Some n)
 unfolding number_or_null
 spells_number old new s n is reads =
-    let found = and_then_some as_i64 (number_of s) n reads in
+    let found = chained as_i64 (number_of s) n reads in
     record { value = json.number s; content = number found.0; tokens = is; is = ap (option_map number) found.1; read = ap (option_map Some) found.2; shallow = omega arith }
 
 pub spells_no_number : (old new : List Token) → old ≡ Token.null ∷ new → Spells number_or_null 0 old new None
@@ -53,7 +49,7 @@ spells_no_number old new is = record { value = json.null; content = null; tokens
 pub spells_bucket : (old new : List Token) (s : List ℕ) (n : ℤ) (bucket : ℕ) → old ≡ Token.number s ∷ new → option_and_then as_i64 (number_of s) ≡ Some n → instant_of n ≡ Some bucket
     → Spells (λ d. option_and_then instant_of (integer_at d)) 0 old new bucket
 spells_bucket old new s n bucket is reads instant =
-    let found = and_then_some as_i64 (number_of s) n reads in
+    let found = chained as_i64 (number_of s) n reads in
     record { value = json.number s; content = number found.0; tokens = is; is = ap (option_map number) found.1; read = ap (option_and_then instant_of) found.2 ∙ instant; shallow = omega arith }
 
 -- ---- lists
@@ -100,7 +96,7 @@ pub spells_row : (old a b c d e new : List Token) (bucket : ℕ) (values : List 
     → Spells group_at 2 (Token.begin_array ∷ old) new (record { key = record { bucket = bucket; values = values }; numbers = numbers })
 unfolding parts_at group_of
 spells_row old a b c d e new bucket values numbers label opens_values texts opens_numbers words ends =
-    let ms = and_then_some instant_of (integer_at label.content) bucket label.read in
+    let ms = chained instant_of (integer_at label.content) bucket label.read in
     let last : json.Items = json.item (json.array words.values) json.no_items in
     let both : json.Items = json.item (json.array texts.values) last in
     let third = item_tokens (json.array words.values) json.no_items c e new (opens_numbers ∙ ap (λ l. Token.begin_array ∷ l) words.tokens) ends in
