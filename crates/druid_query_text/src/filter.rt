@@ -117,7 +117,7 @@ fn are_short(values: &[Value]) -> bool
 }
 
 fn are_few(values: &[Value]) -> bool
-    ensures { result ≡ nat_le (length values.now) MAX_VALUES }
+    ensures { result ≡ nat_le (length values.now) 1000 }
 {
     values.len() <= MAX_VALUES
 }

@@ -5,7 +5,6 @@ ghost use Rattle.std.specs.IoError.{error_kind};
 ghost use Rattle.druid_stream.specs.Fronts.{AppendsFront};
 ghost use Rattle.druid_segfile.specs.Spelling.{spelling};
 ghost use Rattle.druid_segfile.specs.Written.{AppendsUpTo};
-ghost use Rattle.druid_segfile.specs.declared.writing.TheConstants.{GATHERED};
 
 use crate::FileFault;
 use crate::spelling::{append_row, heading};
@@ -46,7 +45,7 @@ pub(crate) fn write_gathered<W: Write>(
     gathered: &mut Vec<u8>,
 ) -> Result<(), FileFault>
     ensures ok { OnOk result (AppendsUpTo (W.contents writer.old) (W.contents writer.new) gathered.old.items gathered.new.items) }
-    ensures few { OnOk result (length gathered.new.items < GATHERED) }
+    ensures few { OnOk result (length gathered.new.items < 65536) }
     ensures err { OnErr result (AppendsFront (W.contents writer.old) (W.contents writer.new) gathered.old.items) }
     ensures faults { IfErr result (λ fault. (fault ≡ FileFault.Write) ⊎ (fault ≡ FileFault.Memory)) }
 {

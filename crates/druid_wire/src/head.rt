@@ -60,7 +60,7 @@ fn whole_request(
 ) -> Result<RequestParts, WireFault>
     requires within { IsRequestWithin head.now fields.now spans }
     requires found { IsRequestOf head.now fields.now spans }
-    requires room { length fields.now ≤ MAX_FIELDS }
+    requires room { length fields.now ≤ 64 }
     ensures ok { IfOk result (TellsRequest head.now) }
     ensures err { IfErr result (λ fault. RequestSays head.now (Err fault)) }
 {
@@ -100,7 +100,7 @@ fn whole_response(
 ) -> Result<ResponseParts, WireFault>
     requires within { IsResponseWithin head.now fields.now spans }
     requires found { IsResponseOf head.now fields.now spans }
-    requires room { length fields.now ≤ MAX_FIELDS }
+    requires room { length fields.now ≤ 64 }
     ensures ok { IfOk result (TellsResponse head.now) }
     ensures err { IfErr result (λ fault. ResponseSays head.now (Err fault)) }
 {

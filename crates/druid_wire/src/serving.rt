@@ -13,7 +13,7 @@ use std::io::Write;
 
 // The status that is written with a body of so many bytes.
 fn status_sent(status: StatusCode, count: usize) -> u16
-    ensures { result ≡ (if nat_le count MAX_BODY then status else 500) }
+    ensures { result ≡ (if nat_le count 16777216 then status else 500) }
 {
     if count <= MAX_BODY {
         status.as_u16()
