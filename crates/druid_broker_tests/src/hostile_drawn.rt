@@ -9,7 +9,7 @@ use crate::cluster::{
 use crate::drawn::Draws;
 use crate::follow::whole_reply;
 use crate::hostile_turns::{Turn, state, take_turn, whole_line};
-use crate::printing::assert_holds;
+use crate::printing::{assert_holds, printed};
 use druid_link::MemoryLink;
 use druid_message::WireFault;
 use druid_published::Publication;
@@ -42,8 +42,8 @@ const REPLIES: &str =
 {\"counter\":{\"counter\":3,\"hash\":2},\"from\":null,\"requests\":[$],%
 {\"counter\":{\"counter\":3,\"hash\":2},\"from\":null,\"requests\":[],?";
 
-// The body of a node's answer to a count.
-const ANSWER: &str = "{\"missing\":[],\"rows\":[[1704067200000,[],[1]]]}";
+// What stands before the count of a node's answer to a count over the day, which is its only bucket.
+const ROW: &str = "\"rows\":[[1704067200000,[],[";
 
 // The starts of what a broker answers with these statuses, but for 200.
 const LAWFUL: &str =
@@ -112,6 +112,28 @@ fn drawn_reply(rt: &impl Abort, alloc: Global, draws: &mut Draws, body: &str) ->
     draw_bytes(rt, alloc, draws, bytes)
 }
 
+// The body of a node's answer to a count: without a row, or with a count.
+fn drawn_answer(rt: &impl Abort, alloc: Global, draws: &mut Draws) -> String {
+    if draws.below(4) == 0 {
+        return printed(rt, alloc, &"{\"missing\":[],\"rows\":[]}");
+    }
+    let count = draws.below(1_000_000_000);
+    format!(in alloc; "{{\"missing\":[],{ROW}{count}]]]}}").expect(rt, "memory")
+}
+
+// What a broker answers that takes these bytes of a node: with the count of their row, or without a row. No spoiled row has another
+// instant: `all` is one bucket.
+fn told(rt: &impl Abort, alloc: Global, bytes: &[u8]) -> String {
+    let text = String::from_utf8_lossy(alloc, bytes).expect(rt, "memory");
+    let Some((_, rest)) = text.as_str().split_once(ROW) else {
+        return printed(rt, alloc, &"200 []");
+    };
+    let count = rest.split(']').next().unwrap_or("").trim();
+    format!(in alloc;
+        "200 [{{\"result\":{{\"n\":{count}}},\"timestamp\":\"2024-01-01T00:00:00.000Z\"}}]"
+    ).expect(rt, "memory")
+}
+
 // What a broker answers to requests without a body.
 const VALUES: &str = "true\n[\"w\"]\n{\"inventoryInitialized\":true}\n[]";
 
@@ -175,22 +197,24 @@ fn serves<R: Handle, J: Publication>(
     }
 }
 
-// Whether a broker takes what a node answers to a count, or else asks the other node, whose row it counts. An answer that is not
-// spoiled has to be taken.
+// Whether a broker takes what a node answers to a count and answers what its bytes say, or else asks the other node, whose row it
+// counts. An answer that is not spoiled has to be taken.
 fn gathers<R: Handle, J: Publication>(
     alloc: Global,
     cluster: &mut Cluster<R, J>,
     draws: &mut Draws,
 ) -> bool {
     let rt = cluster.rt;
-    let bytes = drawn_reply(&rt, alloc, draws, ANSWER);
-    let spoiled = bytes != whole_reply(&rt, alloc, "200", ANSWER);
+    let answer = drawn_answer(&rt, alloc, draws);
+    let bytes = drawn_reply(&rt, alloc, draws, answer.as_str());
+    let spoiled = bytes != whole_reply(&rt, alloc, "200", answer.as_str());
+    let told = told(&rt, alloc, &bytes);
     set(cluster, 0, Server::Bytes(bytes));
     made_by_two(cluster);
-    let answer = counted(alloc, cluster, 0);
+    let counted = counted(alloc, cluster, 0);
     match made_by_two(cluster) {
-        (1, 0) if spoiled => answer.as_str().starts_with("200 ["),
-        asked => asked == (1, if spoiled { 1 } else { 0 }) && answer.as_str() == COUNTED,
+        (1, 0) => counted.as_str() == told.as_str(),
+        asked => spoiled && asked == (1, 1) && counted.as_str() == COUNTED,
     }
 }
 
