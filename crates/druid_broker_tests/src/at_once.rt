@@ -8,8 +8,9 @@ use crate::cluster::{
 };
 use crate::printing::assert_holds;
 use crate::reading::mark_read;
+use crate::turns::has_node;
 use druid_folder::Folder;
-use druid_follow::fetch;
+use druid_follow::shared_turn;
 use druid_inventory::Inventory;
 use druid_link::Link;
 use druid_message::WireFault;
@@ -17,7 +18,7 @@ use druid_node::DataNode;
 use druid_published::{Opened, Publication, Publisher, View, open};
 use druid_rows::Segment;
 use druid_segfile::write_segment;
-use druid_shard::{Mark, Reply};
+use druid_shard::Mark;
 use druid_store::MemoryFolder;
 use std::alloc::Global;
 use std::marker::Brand;
@@ -110,48 +111,22 @@ fn links_to<R: Handle>(rt: R, alloc: Global, node: &SharedNode) -> Vec<SharedLin
     links
 }
 
-// Publishes a reply, gives the view its receipt, and gives the mark that is published then.
-fn publish<R: Handle, J: Publication>(
+// The mark that a view reads after a syncer's turn, if it is not below that of the reply, and not below the one that was published
+// before the turn.
+fn take_turn<R: Handle, J: Publication>(
     rt: R,
+    alloc: Global,
     publisher: &Mutex<Publisher<J, R>>,
     view: &mut View<J>,
-    reply: &Reply,
+    link: &mut SharedLink<R>,
 ) -> Option<Mark> {
-    let mut publisher = publisher.lock(&rt);
-    let Ok((_, receipt)) = publisher.publish(0, reply) else {
-        return None;
-    };
-    view.learn(&receipt);
-    publisher.inventory().mark(0)
-}
-
-// What a node replies after what a view reads.
-fn fetch_after<J: Publication, L: Link>(
-    alloc: Global,
-    view: &mut View<J>,
-    link: &mut L,
-) -> Option<Reply> {
-    let Ok(found) = view.read() else {
-        return None;
-    };
-    if found.node_count() == 0 {
+    if !has_node(view, 0) {
         return None;
     }
-    fetch(alloc, &found, 0, link).ok()
-}
-
-// The mark that a view reads after a syncer's turn, if it is not below the one that was published.
-fn take_turn<R: Handle, J: Publication, L: Link>(
-    rt: R,
-    alloc: Global,
-    publisher: &Mutex<Publisher<J, R>>,
-    view: &mut View<J>,
-    link: &mut L,
-) -> Option<Mark> {
-    let reply = fetch_after(alloc, view, link)?;
-    let published = publish(rt, publisher, view, &reply)?;
+    let published = publisher.lock(&rt).inventory().mark(0)?;
+    shared_turn(&rt, alloc, 0, view, link, publisher).ok()?;
     let read = mark_read(view)?;
-    if read < published {
+    if read < published || read < link.seen {
         return None;
     }
     Some(read)

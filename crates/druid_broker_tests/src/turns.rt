@@ -1,5 +1,5 @@
 //! Turns of a thread that shares a publisher: a turn that fails ends nothing, and as many are made as are asked for.
-ghost use Rattle.std.specs.Prelude.{◌≡◌, ◌≤◌, IsTrue, length};
+ghost use Rattle.std.specs.Prelude.{◌≡◌, ◌<◌, IsTrue, length};
 
 use crate::cluster::Handle;
 use crate::follow::{link, mark_text, one_node};
@@ -8,6 +8,7 @@ use druid_follow::{Observe, TurnCount, Turned, follow_observed, follow_on_observ
 use druid_inventory::Inventory;
 use druid_link::MemoryLink;
 use druid_published::{Opened, Publication, Publisher, View, open};
+use druid_shard::NodeNo;
 use std::alloc::Global;
 use std::cell::Cell;
 use std::marker::Brand;
@@ -57,15 +58,15 @@ impl Observe for Seen {
     }
 }
 
-// Whether there is a node that a view reads of.
+/// Whether a view reads of a node.
 #[tactic(auto, using(druid_inventory::proofs::JoinLemmas::fewer_names))]
-fn has_node<J: Publication>(view: &mut View<J>) -> bool
-    ensures { IsTrue result → 1 ≤ length J.opening }
+pub(crate) fn has_node<J: Publication>(view: &mut View<J>, node: NodeNo) -> bool
+    ensures { IsTrue result → node < length J.opening }
 {
     let Ok(found) = view.read() else {
         return false;
     };
-    if found.node_count() == 0 {
+    if found.node_count() <= node {
         return false;
     }
     true
@@ -82,7 +83,7 @@ fn followed_for<R: Handle + Clock, J: Publication>(
     publisher: &Mutex<Publisher<J, R>>,
     seen: &mut Seen,
 ) -> Option<TurnCount>
-    requires { 1 ≤ length J.opening }
+    requires { 0 < length J.opening }
 {
     if !endless {
         return Some(follow_observed(&rt, alloc, 0, turns, view, link, publisher, seen));
@@ -115,7 +116,7 @@ fn turned<R: Handle + Clock, J: Publication>(
         &rt, "memory",
     );
     let mut view = views.pop().expect(&rt, "a view");
-    if !has_node(&mut view) {
+    if !has_node(&mut view, 0) {
         panic!(rt; "no node");
     }
     let publisher = Mutex::new(publisher);
