@@ -11,6 +11,8 @@ mod cluster;
 #[cfg(test)]
 mod drawn;
 #[cfg(test)]
+mod entries;
+#[cfg(test)]
 mod follow;
 #[cfg(test)]
 mod gate;
