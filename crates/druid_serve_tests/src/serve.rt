@@ -5,14 +5,16 @@ use crate::folders::{
 use crate::host::{Host, address_of, environment, listener};
 use druid_link::{Link, TcpLink};
 use druid_program::{run, serve_config};
+use druid_server::Handover;
 use std::alloc::Global;
 use std::io::{ErrorKind, Write};
 use std::net::{Net, TcpListener, TcpStream};
 use std::process::Abort;
-use std::sync::atomic::{AtomicBool, Ordering};
+use std::sync::Wait;
+use std::sync::atomic::{AtomicU64, Ordering};
 use std::thread::join;
-use std::time::{Clock, Duration};
-use std::{fs, io, str, thread};
+use std::time::Clock;
+use std::{fs, io, str};
 
 /// Where the two nodes and the two brokers of a test are, and over which folders the nodes stand.
 #[derive(Drop)]
@@ -411,179 +413,119 @@ fn failing_devices(rt: HostRuntime) {
     assert_reported(&rt, served_at(&rt, alloc, &place), "3\ndevice\n");
 }
 
-// Asks brokers whether they are there, until the other thread is done, and gives how often one of them answered.
-fn keep_asking<L: Link, C: Clock>(
-    clock: &C,
-    alloc: Global,
-    links: &mut [L],
-    done: &AtomicBool,
-) -> u64 {
-    let mut answered = 0u64;
-    for _ in 0..10_000 {
-        if done.load(Ordering::SeqCst) {
-            return answered;
-        }
-        for link in links.iter_mut() {
-            if is_there(alloc, link) {
-                answered = answered.saturating_add(1);
-            }
-        }
-        thread::sleep(clock, Duration::from_millis(2));
-    }
-    answered
-}
-
 // Whether a server says that it is there.
 fn is_there<L: Link>(alloc: Global, link: &mut L) -> bool {
     link.exchange(alloc, b"GET /status/health HTTP/1.1\r\n\r\n")
         .is_ok()
 }
 
-// Asks the first broker alone until it answers and for a while after, and then all until the other thread is done. Whether it
-// answered, and the other thread was not done before all were asked.
-fn ask_first_alone<L: Link, C: Clock>(
-    clock: &C,
-    alloc: Global,
-    links: &mut [L],
-    done: &AtomicBool,
-) -> bool {
-    let mut answered = false;
-    if let Some(first) = links.first_mut() {
-        for _ in 0..10_000 {
-            answered = is_there(alloc, first);
-            if answered {
-                break;
-            }
-            thread::sleep(clock, Duration::from_millis(2));
+// Asks each server so many times whether it is there.
+fn ask_each<L: Link>(alloc: Global, links: &mut [L], times: u64) {
+    for _ in 0..times {
+        for link in links.iter_mut() {
+            is_there(alloc, link);
         }
     }
-    thread::sleep(clock, Duration::from_millis(200));
-    let waited = !done.load(Ordering::SeqCst);
-    keep_asking(clock, alloc, links, done);
-    answered && waited
 }
 
-// A link to each broker.
+// A link to each of two servers.
 fn links_to<R: Host + Net<Listener = TcpListener, Stream = TcpStream>>(
     rt: &R,
     alloc: Global,
-    place: &Place,
+    addresses: [&String; 2],
 ) -> Vec<TcpLink<R>> {
     let mut links = Vec::new(alloc);
-    for address in [&place.broker, &place.other] {
+    for address in addresses {
         let address = String::from_str(alloc, address.as_str()).expect(rt, "memory");
         links.push(TcpLink::new(*rt, address)).expect(rt, "memory");
     }
     links
 }
 
-// Whether a cluster waits for a connection from outside to its second broker too, which answered a query of the config.
-fn waits_for_each<R: Host + Net<Listener = TcpListener, Stream = TcpStream>>(
-    rt: &R,
-    alloc: Global,
-    config: &str,
-    place: &Place,
-) -> bool {
-    let done = AtomicBool::new(false);
-    let mut links = links_to(rt, alloc, place);
-    let (_, waited) = join(
-        rt,
-        || {
-            let reported = served(rt, alloc, config);
-            done.store(true, Ordering::SeqCst);
-            reported
-        },
-        || ask_first_alone(rt, alloc, &mut links, &done),
-    );
-    waited
-}
-
-// Serves a cluster whose brokers wait for connections from outside, and gives what it printed and how many were answered.
-fn served_to_others<R: Host + Net<Listener = TcpListener, Stream = TcpStream>>(
-    rt: &R,
-    alloc: Global,
-    config: &str,
-    place: &Place,
-) -> (String, u64) {
-    let done = AtomicBool::new(false);
-    let mut links = links_to(rt, alloc, place);
-    join(
-        rt,
-        || {
-            let reported = served(rt, alloc, config);
-            done.store(true, Ordering::SeqCst);
-            reported
-        },
-        || keep_asking(rt, alloc, &mut links, &done),
-    )
-}
-
-#[test]
-fn connections_from_outside(rt: HostRuntime) {
-    let place = place_of(&rt, rt.alloc(), "outside");
-    let text = config(&rt, rt.alloc(), &place, 5);
-    let (reported, answered) = served_to_others(&rt, rt.alloc(), text.as_str(), &place);
-    assert_served(&rt, reported);
-    assert!(rt; answered >= 10, "{answered}");
-    clear(&rt, &place);
-}
-
-#[test]
-fn queries_of_the_config_do_not_count(rt: HostRuntime) {
-    let place = place_of(&rt, rt.alloc(), "counted");
-    let text = config(&rt, rt.alloc(), &place, 1);
-    assert!(rt; waits_for_each(&rt, rt.alloc(), text.as_str(), &place));
-    clear(&rt, &place);
-}
-
-// A writer that takes all and tells when it was flushed: by then the brokers count connections.
+// What the thread that serves a cluster and the one that asks its brokers tell each other.
 #[derive(Drop)]
-struct Flagged<'a> {
-    flushed: &'a AtomicBool,
+struct Told {
+    // A query of the config is answered: the brokers answer, and count nothing yet.
+    early: Handover<()>,
+    // They were asked so early.
+    asked: Handover<()>,
+    // All queries of the config are answered: connections count.
+    counts: Handover<()>,
+    // How many connections began that count.
+    begun: AtomicU64,
 }
 
-impl Write for Flagged<'_> {
+// A writer that takes nothing before the brokers were asked early, and tells when it is flushed: by then the brokers count connections.
+#[derive(Drop)]
+struct Held<'a, R: Wait> {
+    rt: &'a R,
+    told: &'a Told,
+    printed: Vec<u8>,
+}
+
+impl<R: Wait> Write for Held<'_, R> {
     fn write(&mut self, buf: &[u8]) -> io::Result<usize> {
-        Ok(buf.len())
+        if self.printed.is_empty() {
+            self.told.early.give(self.rt, ());
+            self.told.asked.take(self.rt);
+        }
+        self.printed.write(buf)
     }
 
     fn flush(&mut self) -> io::Result<()> {
-        self.flushed.store(true, Ordering::SeqCst);
+        self.told.counts.give(self.rt, ());
         Ok(())
     }
 }
 
-// The status with which a cluster ends.
-fn status_of<R: Host + Net<Listener = TcpListener, Stream = TcpStream>>(
+// Serves a cluster to its end, and gives how many connections that count had begun by then.
+fn begun_by_the_end<R: Host + Net<Listener = TcpListener, Stream = TcpStream>>(
     rt: &R,
     alloc: Global,
     config: &str,
-    flushed: &AtomicBool,
-) -> u8 {
-    let mut out = Flagged { flushed };
+    told: &Told,
+) -> u64 {
+    let mut out = Held {
+        rt,
+        told,
+        printed: Vec::new(alloc),
+    };
     let mut errors = Vec::new(alloc);
     let environment = environment(rt, alloc, false);
     let bytes = config.as_bytes();
-    serve_config(rt, alloc, bytes, &environment, &mut out, &mut errors).status
+    let ending = serve_config(rt, alloc, bytes, &environment, &mut out, &mut errors);
+    let begun = told.begun.load(Ordering::SeqCst);
+    assert!(rt; ending.status == 0 && out.printed.as_slice().starts_with(b"200\n"));
+    begun
 }
 
-// Asks each broker five times, once connections are counted, and gives how often one answered.
-fn ask_five<L: Link, C: Clock>(
-    clock: &C,
+// How often each node is asked while a cluster goes on. No broker counts that, and one that waits for no more ends meanwhile.
+const EXCHANGES: u64 = 100;
+
+// Asks each broker that many times early, and then as often as the config says, the last time only after the nodes. Gives how often
+// one answered that counted.
+fn ask_brokers<R: Host + Net<Listener = TcpListener, Stream = TcpStream>>(
+    rt: &R,
     alloc: Global,
-    links: &mut [L],
-    flushed: &AtomicBool,
+    place: &Place,
+    told: &Told,
+    early: u64,
+    connections: u64,
 ) -> u64 {
-    for _ in 0..10_000 {
-        if flushed.load(Ordering::SeqCst) {
-            break;
-        }
-        thread::sleep(clock, Duration::from_millis(2));
-    }
+    let mut brokers = links_to(rt, alloc, [&place.broker, &place.other]);
+    let mut nodes = links_to(rt, alloc, [&place.first, &place.second]);
+    told.early.take(rt);
+    ask_each(alloc, &mut brokers, early);
+    told.asked.give(rt, ());
+    told.counts.take(rt);
     let mut answered = 0u64;
-    for _ in 0..5 {
-        for link in links.iter_mut() {
-            if is_there(alloc, link) {
+    for number in 1..=connections {
+        for broker in brokers.iter_mut() {
+            if number == connections {
+                ask_each(alloc, &mut nodes, EXCHANGES);
+            }
+            told.begun.fetch_add(1, Ordering::SeqCst);
+            if is_there(alloc, broker) {
                 answered = answered.saturating_add(1);
             }
         }
@@ -591,27 +533,44 @@ fn ask_five<L: Link, C: Clock>(
     answered
 }
 
-// The status with which a cluster ends, each of whose brokers was asked five times, and how many answers there were.
-fn asked_five<R: Host + Net<Listener = TcpListener, Stream = TcpStream>>(
+// Asserts that a cluster whose brokers were asked that often early goes on until each of them was asked as often as the config says,
+// and that each answered that.
+fn assert_counted<R: Host + Net<Listener = TcpListener, Stream = TcpStream>>(
     rt: &R,
     alloc: Global,
-    config: &str,
-    place: &Place,
-) -> (u8, u64) {
-    let flushed = AtomicBool::new(false);
-    let mut links = links_to(rt, alloc, place);
-    join(
+    test: &str,
+    early: u64,
+    connections: u64,
+) {
+    let place = place_of(rt, alloc, test);
+    let config = config(rt, alloc, &place, connections);
+    let told = Told {
+        early: Handover::new(),
+        asked: Handover::new(),
+        counts: Handover::new(),
+        begun: AtomicU64::new(0),
+    };
+    let (begun, answered) = join(
         rt,
-        || status_of(rt, alloc, config, &flushed),
-        || ask_five(rt, alloc, &mut links, &flushed),
-    )
+        || begun_by_the_end(rt, alloc, config.as_str(), &told),
+        || ask_brokers(rt, alloc, &place, &told, early, connections),
+    );
+    let wanted = connections.saturating_mul(2);
+    assert!(rt;
+        begun == wanted && answered == wanted,
+        "{begun} {answered} of {wanted}"
+    );
+    clear(rt, &place);
 }
 
-// As many connections as the config says are answered, and enough.
+// As many connections as the config says are answered, and enough; none that came before all its queries were answered counts.
 #[test]
-fn five_connections(rt: HostRuntime) {
-    let place = place_of(&rt, rt.alloc(), "five");
-    let text = config(&rt, rt.alloc(), &place, 5);
-    assert!(rt; asked_five(&rt, rt.alloc(), text.as_str(), &place) == (0, 10));
-    clear(&rt, &place);
+fn connections_from_outside(rt: HostRuntime) {
+    assert_counted(&rt, rt.alloc(), "outside", 5, 5);
+}
+
+// Each broker answered one query of the config.
+#[test]
+fn queries_of_the_config_do_not_count(rt: HostRuntime) {
+    assert_counted(&rt, rt.alloc(), "counted", 0, 1);
 }
