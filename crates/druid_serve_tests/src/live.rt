@@ -146,9 +146,9 @@ fn ask_brokers<R: Host + Net<Listener = TcpListener, Stream = TcpStream>>(
     join(rt, || two(broker), || two(other));
 }
 
-// What the second node says that it serves.
-fn second_node<R: Net + Clock + Copy + Abort>(rt: &R, alloc: Global, place: &Place) -> String {
-    let mut link = link_to(rt, alloc, place.second.as_str());
+// What the node at an address says that it serves.
+fn served_by<R: Net + Clock + Copy + Abort>(rt: &R, alloc: Global, address: &str) -> String {
+    let mut link = link_to(rt, alloc, address);
     let answer = answered(
         rt,
         alloc,
@@ -159,14 +159,51 @@ fn second_node<R: Net + Clock + Copy + Abort>(rt: &R, alloc: Global, place: &Pla
     String::from_str(alloc, body).expect(rt, "memory")
 }
 
-// Each answer is of one version while the newer one's file goes and comes, both are seen, and at the end both brokers know of the
-// node what it says, byte for byte.
+// All that the broker at an address answers of a node, once it stands at that mark of it.
+fn known_at<R: Net + Clock + Copy + Abort>(
+    rt: &R,
+    alloc: Global,
+    address: &str,
+    node: u8,
+    mark: &str,
+) -> String {
+    let mut link = link_to(rt, alloc, address);
+    let ask = format!(in alloc; "GET /druid-internal/v1/inventory/{node} HTTP/1.1\r\n\r\n").expect(
+        rt, "memory",
+    );
+    for _ in 0..MAX_LOOKS {
+        let answer = answered(rt, alloc, &mut link, ask.as_bytes());
+        if answer.as_str().contains(mark) {
+            return answer;
+        }
+        thread::sleep(rt, Duration::from_millis(2));
+    }
+    panic!(rt; "never {mark}")
+}
+
+// Asserts that both brokers, once they stand at each node's mark, answer the same bytes of it, and what it says itself.
+fn assert_agree<R: Net + Clock + Copy + Abort>(rt: &R, alloc: Global, place: &Place) {
+    for (node, address) in [(0u8, &place.first), (1, &place.second)] {
+        let said = served_by(rt, alloc, address.as_str());
+        let (mark, _) = said.as_str().split_once(",\"from\":").expect(rt, "a mark");
+        let first = known_at(rt, alloc, place.broker.as_str(), node, mark);
+        let second = known_at(rt, alloc, place.other.as_str(), node, mark);
+        assert!(rt;
+            first.as_str() == second.as_str() && first.as_str().ends_with(said.as_str()),
+            "{node}: {first} {second}"
+        );
+    }
+}
+
+// Each answer is of one version while the newer one's file goes and comes, and both are seen. Before and after, both brokers know the
+// same of each node, byte for byte.
 #[test]
 fn a_version_comes_and_goes(rt: HostRuntime) {
     let alloc = rt.alloc();
     let place = place_of(&rt, alloc, "live");
     let text = live_config(&rt, alloc, &place);
     assert_served(&rt, served(&rt, alloc, text.as_str()));
+    assert_agree(&rt, alloc, &place);
     let seen = Seen {
         older: AtomicU64::new(0),
         newer: AtomicU64::new(0),
@@ -185,11 +222,7 @@ fn a_version_comes_and_goes(rt: HostRuntime) {
         seen.newer.load(Ordering::SeqCst),
     );
     assert!(rt; CYCLES <= older && CYCLES <= newer, "{older} {newer}");
-    let known = second_node(&rt, alloc, &place);
-    for address in [place.broker.as_str(), place.other.as_str()] {
-        let ask = b"GET /druid-internal/v1/inventory/1 HTTP/1.1\r\n\r\n";
-        wait_for(&rt, alloc, address, ask, known.as_str());
-    }
+    assert_agree(&rt, alloc, &place);
     clear(&rt, &place);
 }
 
