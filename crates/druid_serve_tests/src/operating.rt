@@ -176,61 +176,65 @@ fn start_with_status<R: Host + Net<Listener = TcpListener, Stream = TcpStream>>(
     (node_at, broker_at)
 }
 
+// Requests to a status address, each with the status of its answer and a text that is in it.
+const OF_BOTH: [(&str, &str, &str); 4] = [
+    ("GET /status/health", "200", "true"),
+    ("POST /status/health", "405", "Method"),
+    ("POST /metrics", "405", "Method"),
+    ("GET /druid/v2/datasources", "404", "NoRoute"),
+];
+
+const OF_NODE: [(&str, &str, &str); 4] = [
+    (
+        "GET /metrics",
+        "200",
+        "druid_cluster_node_segments{server=\"n0\"} 1\n",
+    ),
+    (
+        "GET /metrics",
+        "200",
+        "druid_cluster_node_rows{server=\"n0\"} 4\n",
+    ),
+    (
+        "GET /metrics",
+        "200",
+        "druid_cluster_answers_total{server=\"n0\",route=\"query\",status=\"200\"}",
+    ),
+    ("GET /druid/broker/v1/loadstatus", "404", "NoRoute"),
+];
+
+const OF_BROKER: [(&str, &str, &str); 4] = [
+    (
+        "GET /druid/broker/v1/loadstatus",
+        "200",
+        "{\"inventoryInitialized\":true}",
+    ),
+    (
+        "GET /metrics",
+        "200",
+        "druid_cluster_followed_incarnation{server=\"broker:0\",node=\"n1\"} 1\n",
+    ),
+    (
+        "GET /metrics",
+        "200",
+        "druid_cluster_exchanges_total{server=\"broker:0\",node=\"n0\",end=\"answered\"}",
+    ),
+    (
+        "GET /metrics",
+        "200",
+        "druid_cluster_turns_total{server=\"broker:0\",node=\"n0\",end=\"Moved\"} 1\n",
+    ),
+];
+
 #[test]
 fn status_addresses(rt: HostRuntime) {
     let alloc = rt.alloc();
     let place = place_of(&rt, alloc, "status");
     let (node_at, broker_at) = start_with_status(&rt, alloc, &place);
-    let of_both = [
-        ("GET /status/health", "200", "true"),
-        ("POST /status/health", "405", "Method"),
-        ("POST /metrics", "405", "Method"),
-        ("GET /druid/v2/datasources", "404", "NoRoute"),
-    ];
-    let of_node = [
-        (
-            "GET /metrics",
-            "200",
-            "druid_cluster_node_segments{server=\"n0\"} 1\n",
-        ),
-        (
-            "GET /metrics",
-            "200",
-            "druid_cluster_node_rows{server=\"n0\"} 4\n",
-        ),
-        (
-            "GET /metrics",
-            "200",
-            "druid_cluster_answers_total{server=\"n0\",route=\"query\",status=\"200\"}",
-        ),
-        ("GET /druid/broker/v1/loadstatus", "404", "NoRoute"),
-    ];
-    let of_broker = [
-        (
-            "GET /druid/broker/v1/loadstatus",
-            "200",
-            "{\"inventoryInitialized\":true}",
-        ),
-        (
-            "GET /metrics",
-            "200",
-            "druid_cluster_followed_incarnation{server=\"broker:0\",node=\"n1\"} 1\n",
-        ),
-        (
-            "GET /metrics",
-            "200",
-            "druid_cluster_exchanges_total{server=\"broker:0\",node=\"n0\",end=\"answered\"}",
-        ),
-        (
-            "GET /metrics",
-            "200",
-            "druid_cluster_turns_total{server=\"broker:0\",node=\"n0\",end=\"Moved\"} 1\n",
-        ),
-    ];
-    assert_answers(&rt, alloc, node_at.as_str(), &of_both);
-    assert_answers(&rt, alloc, broker_at.as_str(), &of_both);
-    assert_answers(&rt, alloc, node_at.as_str(), &of_node);
-    assert_answers(&rt, alloc, broker_at.as_str(), &of_broker);
+    for (address, rows) in [(&node_at, OF_NODE), (&broker_at, OF_BROKER)] {
+        assert_answers(&rt, alloc, address.as_str(), &OF_BOTH);
+        assert_answers(&rt, alloc, address.as_str(), &rows);
+    }
     clear(&rt, &place);
 }
 
