@@ -21,7 +21,7 @@ WITHIN = 'all that it allocates is allocated within: '
 COPIES = 'copies lists of descriptors as Assembly::take does, which is called, and changes nothing'
 DEVICE = 'reaches the system, whose own faults come first; by tests with a device that fails'
 BY_REPLAY = 'by replay.py, over the built program'
-START = 'starts threads and sockets: memory is taken from what is served (tests/hostile/memory.py), and at its start by no test'
+AT_START = 'opens a log, as log::open does, which is called, and starts a thread: only the program, at its start, makes it'
 # By these a call reports that memory ran out as a device that failed, or as a route that cannot be added.
 AS_DEVICE = {'DeviceFailed', 'Ending', 'InsertError', 'ReplayFault', 'StartFault', 'Stop'}
 LEFT_OUT = {
@@ -29,7 +29,7 @@ LEFT_OUT = {
     'druid_asked_text::asked_list': BY_CALLER + 'read_subquery',
     'druid_base::copy_text': WITHIN + 'Aggregator::new, Segment::row',
     'druid_base::parse_json': WITHIN + 'read_reply, read_query',
-    'druid_broker::Routes::new': START,
+    'druid_broker::Routes::new': WITHIN + 'serve',
     'druid_changes::History::refusal_of_drop': NEVER,
     'druid_changes::History::refusal_of_load': NEVER,
     'druid_cluster::replay': BY_REPLAY,
@@ -47,14 +47,11 @@ LEFT_OUT = {
     'druid_pages::Assembly::clone': COPIES,
     'druid_pages::Assembly::take': WITHIN + 'inventory::Assembly::take',
     'druid_program::run': BY_REPLAY,
-    'druid_program::serve_config': START,
-    'druid_program::start_log': START,
+    'druid_program::serve_config': WITHIN + 'serve, replay_explained',
+    'druid_program::start_log': AT_START,
     'druid_query::Query::new': BY_CALLER + 'read_query',
-    'druid_serve::serve': START,
-    'druid_serve_node::start_node': START,
-    'druid_serve_node::start_owner': START,
     'druid_server::Source::open': 'made by fronts::of_sources, which looks at the listener that is left, too',
-    'druid_server::start_status': START,
+    'druid_server::start_status': WITHIN + 'start_node, serve',
     'druid_shard::Reply::page': NEVER,
     'druid_shard::apply_change': BY_CALLER + 'History::record, Inventory::advance',
     'druid_shard_text::DescriptorRef::of': NO_ALLOCATOR,

@@ -10,6 +10,7 @@ use druid_partial_text::{partial_text, result_text, shortfall_text};
 use druid_query::Query;
 use druid_rows::{Row, RowFault, Schema, Segment, SegmentBuilder};
 use druid_scan::{partial_of, partial_of_slices, partial_over};
+use druid_shard::Descriptor;
 use druid_time::Instant;
 use druid_wire::{read_request, read_response, request_bytes};
 use http::Method;
@@ -39,8 +40,12 @@ fn rows(rt: &impl Abort, alloc: Global) -> Vec<Row> {
 
 /// A segment of two rows.
 pub(crate) fn segment(rt: &impl Abort, alloc: Global) -> Segment {
-    let (descriptor, schema) = (descriptor(rt, alloc, "v1", 0), schema(rt, alloc));
-    Segment::new(alloc, descriptor, schema, rows(rt, alloc)).expect(rt, "a segment")
+    segment_with(rt, alloc, descriptor(rt, alloc, "v1", 0))
+}
+
+/// One with that descriptor.
+pub(crate) fn segment_with(rt: &impl Abort, alloc: Global, descriptor: Descriptor) -> Segment {
+    Segment::new(alloc, descriptor, schema(rt, alloc), rows(rt, alloc)).expect(rt, "a segment")
 }
 
 fn segments(rt: &impl Abort, alloc: Global) {

@@ -25,6 +25,8 @@ mod published;
 #[cfg(test)]
 mod replies;
 #[cfg(test)]
+mod starts;
+#[cfg(test)]
 mod texts;
 #[cfg(test)]
 mod values;

@@ -28,7 +28,8 @@ impl Incarnation for First {
     ghost number = { 1 };
 }
 
-const FILE: &str = "w_2024-01-01T00:00:00.000Z_2024-01-02T00:00:00.000Z_v1.seg";
+/// The file of the segment.
+pub(crate) const FILE: &str = "w_2024-01-01T00:00:00.000Z_2024-01-02T00:00:00.000Z_v1.seg";
 
 // Whether a call moved the node to a count, or was refused memory and left it at the one before.
 fn moves(reported: Result<(), NodeFault>, state: &NodeState, count: u64) -> bool {
