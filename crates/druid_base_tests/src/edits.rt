@@ -264,12 +264,13 @@ fn nodes(
     rt: &impl Abort,
     alloc: Global,
     held: &[Served],
-    place: &Served,
+    chunk: u64,
+    partition: u16,
     with_rows: bool,
 ) -> Vec<NodeNo> {
     let mut found = Vec::new(alloc);
     for served in held {
-        let is_one = served.chunk == place.chunk && served.partition == place.partition;
+        let is_one = served.chunk == chunk && served.partition == partition;
         if is_one && !(with_rows && served.is_tombstone) {
             found.push(served.node).expect(rt, "memory");
         }
@@ -278,7 +279,67 @@ fn nodes(
     found
 }
 
-// Asserts that the timeline says of what is held what the plain computation says, and the pieces within some ticks.
+// A segment in a visible range, the nodes that hold it, and those that serve its rows.
+#[derive(PartialEq, Drop)]
+struct Shown {
+    range: u64,
+    partition: u16,
+    replicas: Vec<NodeNo>,
+    served: Vec<NodeNo>,
+}
+
+// What is shown within some ticks, by what is held: of each visible range all partitions of its chunk, rising.
+fn wanted(
+    rt: &impl Abort,
+    alloc: Global,
+    held: &[Served],
+    visible: &[Option<u64>],
+    window: (u64, u64),
+) -> Vec<Shown> {
+    let mut shown = Vec::new(alloc);
+    for range in &stretches(rt, alloc, visible, window.0, window.1) {
+        let chunk = range % 1_000_000;
+        for partition in &partitions(rt, alloc, held, chunk) {
+            let segment = Shown {
+                range: *range,
+                partition: *partition,
+                replicas: nodes(rt, alloc, held, chunk, *partition, false),
+                served: nodes(rt, alloc, held, chunk, *partition, true),
+            };
+            shown.push(segment).expect(rt, "memory");
+        }
+    }
+    shown
+}
+
+// The same as the timeline says it.
+fn reported(
+    rt: &impl Abort,
+    alloc: Global,
+    timeline: &Timeline,
+    table: &Table,
+    window: (u64, u64),
+) -> Vec<Shown> {
+    let part = table.interval(rt, window.0, window.1);
+    let set = IntervalSet::of(alloc, &[part]).expect(rt, "memory");
+    let mut shown = Vec::new(alloc);
+    for piece in &timeline.lookup(&set).expect(rt, "memory") {
+        let chunk = table.number_of(piece.key());
+        for partition in piece.parts() {
+            let id = table.id(rt, alloc, "wiki", chunk, *partition);
+            let segment = Shown {
+                range: table.stretch_of(piece.interval(), piece.key()),
+                partition: *partition,
+                replicas: timeline.replicas(&id).expect(rt, "memory"),
+                served: timeline.served(&id).expect(rt, "memory"),
+            };
+            shown.push(segment).expect(rt, "memory");
+        }
+    }
+    shown
+}
+
+// Asserts that the timeline says of what is held what the plain computation says, and what is shown within some ticks.
 fn assert_same(
     rt: &impl Abort,
     alloc: Global,
@@ -299,36 +360,16 @@ fn assert_same(
         let key = timeline.at(*tick).map(|key| table.number_of(key));
         assert!(rt; key == *best);
     }
-    assert_pieces(rt, alloc, timeline, held, table, window, &visible);
+    for window in [window, (0, TICKS)] {
+        let wanted = wanted(rt, alloc, held, &visible, window);
+        assert!(rt; reported(rt, alloc, timeline, table, window) == wanted);
+    }
     let mut meter = Meter::new();
     let mut found = Vec::new(alloc);
     for key in &timeline.overshadowed(&mut meter).expect(rt, "memory") {
         found.push(table.number_of(key)).expect(rt, "memory");
     }
     assert!(rt; found == hidden(rt, alloc, &chunks, &visible));
-}
-
-// Asserts the pieces within some ticks, and their partitions.
-fn assert_pieces(
-    rt: &impl Abort,
-    alloc: Global,
-    timeline: &Timeline,
-    held: &[Served],
-    table: &Table,
-    window: (u64, u64),
-    visible: &[Option<u64>],
-) {
-    let part = table.interval(rt, window.0, window.1);
-    let set = IntervalSet::of(alloc, &[part]).expect(rt, "memory");
-    let mut pieces = Vec::new(alloc);
-    for piece in &timeline.lookup(&set).expect(rt, "memory") {
-        let expected = partitions(rt, alloc, held, table.number_of(piece.key()));
-        assert!(rt; piece.parts() == expected.as_slice());
-        pieces
-            .push(table.stretch_of(piece.interval(), piece.key()))
-            .expect(rt, "memory");
-    }
-    assert!(rt; pieces == stretches(rt, alloc, visible, window.0, window.1));
 }
 
 // Asserts who holds the segment of a place, and who has its rows.
@@ -342,9 +383,10 @@ fn assert_nodes(
 ) {
     let id = table.id(rt, alloc, "wiki", place.chunk, place.partition);
     let replicas = timeline.replicas(&id).expect(rt, "memory");
-    assert!(rt; replicas == nodes(rt, alloc, held, place, false));
+    let (chunk, partition) = (place.chunk, place.partition);
+    assert!(rt; replicas == nodes(rt, alloc, held, chunk, partition, false));
     let served = timeline.served(&id).expect(rt, "memory");
-    assert!(rt; served == nodes(rt, alloc, held, place, true));
+    assert!(rt; served == nodes(rt, alloc, held, chunk, partition, true));
 }
 
 // Ticks from one to a later one.
@@ -366,7 +408,7 @@ pub(crate) fn draw_served(draws: &mut Draws) -> Served {
         .wrapping_add(start.wrapping_mul(100))
         .wrapping_add(end);
     let is_tombstone = draws.below(8) == 0;
-    let node = draws.below(2) as NodeNo;
+    let node = draws.below(3) as NodeNo;
     if is_tombstone {
         return Served {
             chunk,
@@ -389,11 +431,15 @@ fn is_one_place(one: &Served, other: &Served) -> bool {
     one.chunk == other.chunk && one.partition == other.partition && one.node == other.node
 }
 
-// What is served next: something new, or something like what is held.
+// What is served next: something new, another partition of a chunk that is held, or another replica.
 fn draw_near(draws: &mut Draws, held: &[Served]) -> Served {
     let drawn = draw_served(draws);
     let place = draws.below(64) as usize;
     match held.get(place) {
+        Some(near) if draws.below(4) == 0 => Served {
+            node: drawn.node,
+            ..*near
+        },
         Some(near) => Served {
             chunk: near.chunk,
             ..drawn
@@ -474,7 +520,8 @@ fn swept(rt: &impl Abort, timeline: &Timeline) -> Timeline {
         .expect(rt, "memory")
 }
 
-// Makes drawn edits, with no more than so much held, and compares after each, and after some what a sweep gives.
+// Makes drawn edits, with no more than so much held, and compares after each; and some of what sweeps gave, once four edits were made
+// while it shared the chunks.
 fn edit(rt: &impl Abort, alloc: Global, seed: u64, most: u64)
     requires { 0 < most }
 {
@@ -482,6 +529,7 @@ fn edit(rt: &impl Abort, alloc: Global, seed: u64, most: u64)
     let table = Table::new(rt, alloc, &mut draws);
     let mut timeline = Timeline::new(alloc, name(rt, alloc, "wiki"));
     let mut held = Vec::new(alloc);
+    let (mut copy, mut copied) = (swept(rt, &timeline), Vec::new(alloc));
     for number in 0..EDITS {
         if (held.len() as u64) < most && draws.below(2) == 0 {
             add(rt, alloc, &mut draws, &mut timeline, &mut held, &table);
@@ -499,8 +547,11 @@ fn edit(rt: &impl Abort, alloc: Global, seed: u64, most: u64)
         let window = draw_ticks(&mut draws);
         assert_same(rt, alloc, &timeline, &held, &table, window);
         if number % 8 == 0 {
-            let swept = swept(rt, &timeline);
-            assert_same(rt, alloc, &swept, &held, &table, window);
+            copy = swept(rt, &timeline);
+            copied = held.clone().expect(rt, "memory");
+        } else if number % 8 == 4 {
+            assert_same(rt, alloc, &copy, &copied, &table, window);
+            copy = Timeline::new(alloc, name(rt, alloc, "wiki"));
         }
     }
 }
