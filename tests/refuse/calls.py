@@ -44,6 +44,8 @@ LEFT_OUT = {
     'druid_link::receive_some': WITHIN + 'TcpLink::exchange',
     'druid_link::send_all': NO_ALLOCATOR,
     'druid_node::DataNode::load_identified': WITHIN + 'DataNode::load_file',
+    'druid_node::DataNode::load_segment': WITHIN + 'DataNode::load_file',
+    'druid_node::decode_file': WITHIN + 'DataNode::load_file',
     'druid_pages::Assembly::clone': COPIES,
     'druid_pages::Assembly::take': WITHIN + 'inventory::Assembly::take',
     'druid_program::run': BY_REPLAY,

@@ -1,5 +1,5 @@
 -- What a file gives.
-use Rattle.std.proofs.Common.{◌≡◌, ◌⊎◌, ℕ, Bool, true, false, cond, List, Option, Some, None, Result, Ok, Err, IsOk, IfErr, refl, sym, ap, ◌∙◌, subst, inl, inr, bytes_eq}
+use Rattle.std.proofs.Common.{◌≡◌, ℕ, Bool, true, false, cond, List, Option, Some, None, Result, Ok, Err, IsOk, IfOk, IfErr, Vec, Global, refl, sym, ap, ◌∙◌, subst, inl, inr, bytes_eq}
 use Rattle.std.proofs.lemmas.Slice.Eq.{bytes_eq-Decides}
 use Rattle.druid_rows.specs.Segment.{Segment}
 use Rattle.druid_segfile.specs.Reading.{GivesInMemory, segment_at}
@@ -7,12 +7,11 @@ use Rattle.druid_segfile.specs.declared.fault.FileFault.{FileFault}
 use Rattle.druid_segfile.specs.declared.fault.FileFault.TheVariants as file
 use Rattle.druid_segfile.proofs.FrontLemmas.{within_own}
 use Rattle.druid_rows.specs.Segment.{max_text}
-use Rattle.druid_folder.specs.Folder.{faults_at}
+use Rattle.druid_folder.specs.Folder.{bytes_read, faults_at, faults_after}
 use Rattle.druid_folder.specs.declared.fault.StoreFault.{StoreFault}
-use Rattle.druid_folder.specs.declared.fault.StoreFault.TheVariants as store
 use Rattle.druid_shard.specs.Mark.{Point}
 use Rattle.druid_node.specs.Seen.{RefusesLoad}
-use Rattle.druid_node.specs.Files.{file_name, named, file_at, reported_as, RefusesFile, IsOfFile, RefusesBytes, RefusesFound, faults_after_fault, faults_after_load}
+use Rattle.druid_node.specs.Files.{file_name, named, file_at, reported_as, size_of, RefusesFile, IsOfFile, RefusesBytes, RefusesFound, FailsRead, IsDecoded, RefusesDecode, faults_after_fault, faults_after_load}
 use Rattle.druid_node.specs.declared.fault.NodeFault.{NodeFault}
 use Rattle.druid_node.specs.declared.fault.NodeFault.TheVariants as faults
 
@@ -70,12 +69,12 @@ bytes_own name bytes (faults.Behind found) h = absurd h
 bytes_own name bytes faults.NotPartitionZero h = absurd h
 bytes_own name bytes faults.Memory h = tt
 
-pub found_refuse : (incarnation : ℕ) (name : List ℕ) (found given : Option (List ℕ)) (seen : Point) (fault : NodeFault) → found ≡ given → RefusesFound name found fault → RefusesFile incarnation (file_at name given) seen fault
+found_refuse : (incarnation : ℕ) (name : List ℕ) (found given : Option (List ℕ)) (seen : Point) (fault : NodeFault) → found ≡ given → RefusesFound name found fault → RefusesFile incarnation (file_at name given) seen fault
 found_refuse incarnation name None given seen fault is h =
     subst (λ (f : NodeFault). RefusesFile incarnation (file_at name given) seen f) (sym h) (ap (file_at name) (sym is))
 found_refuse incarnation name (Some bytes) given seen fault is h = bytes_refuse incarnation name bytes given seen fault is h
 
-pub found_own : (name : List ℕ) (found : Option (List ℕ)) (fault : NodeFault) → RefusesFound name found fault → IsOfFile fault
+found_own : (name : List ℕ) (found : Option (List ℕ)) (fault : NodeFault) → RefusesFound name found fault → IsOfFile fault
 found_own name None fault h = subst IsOfFile (sym h) tt
 found_own name (Some bytes) fault h = bytes_own name bytes fault h
 
@@ -129,7 +128,7 @@ bytes_uncounted name bytes (faults.Behind found) n h = refl
 bytes_uncounted name bytes faults.NotPartitionZero n h = refl
 bytes_uncounted name bytes faults.Memory n h = refl
 
-pub found_uncounted : (name : List ℕ) (found : Option (List ℕ)) (fault : NodeFault) (n : ℕ) → RefusesFound name found fault → faults_after_fault fault n ≡ n
+found_uncounted : (name : List ℕ) (found : Option (List ℕ)) (fault : NodeFault) (n : ℕ) → RefusesFound name found fault → faults_after_fault fault n ≡ n
 found_uncounted name None fault n h = ap (λ (f : NodeFault). faults_after_fault f n) h
 found_uncounted name (Some bytes) fault n h = bytes_uncounted name bytes fault n h
 
@@ -145,18 +144,44 @@ load_uncounted incarnation seen (Err (faults.Behind found)) n h = refl
 load_uncounted incarnation seen (Err faults.NotPartitionZero) n h = refl
 load_uncounted incarnation seen (Err faults.Memory) n h = refl
 
--- the read of the folder failed
-abbrev pub ReadReported : StoreFault → NodeFault → Type 0
-ReadReported fault reported = ((fault ≡ store.Device) × (reported ≡ faults.Device)) ⊎ ((fault ≡ store.Memory) × (reported ≡ faults.Memory))
+-- ---- a read that failed
 
-pub read_refuses : (incarnation : ℕ) (given : Result Segment NodeFault) (seen : Point) (fault : StoreFault) (reported : NodeFault) → ReadReported fault reported → RefusesFile incarnation given seen reported
+read_refuses : (incarnation : ℕ) (given : Result Segment NodeFault) (seen : Point) (fault : StoreFault) (reported : NodeFault) → FailsRead fault reported → RefusesFile incarnation given seen reported
 read_refuses incarnation given seen fault reported (inl (e, f)) = subst (RefusesFile incarnation given seen) (sym f) tt
 read_refuses incarnation given seen fault reported (inr (e, f)) = subst (RefusesFile incarnation given seen) (sym f) tt
 
-pub read_own : (fault : StoreFault) (reported : NodeFault) → ReadReported fault reported → IsOfFile reported
+read_own : (fault : StoreFault) (reported : NodeFault) → FailsRead fault reported → IsOfFile reported
 read_own fault reported (inl (e, f)) = subst IsOfFile (sym f) tt
 read_own fault reported (inr (e, f)) = subst IsOfFile (sym f) tt
 
-pub read_counted : (fault : StoreFault) (reported : NodeFault) (n : ℕ) → ReadReported fault reported → faults_at fault n ≡ faults_after_fault reported n
+read_counted : (fault : StoreFault) (reported : NodeFault) (n : ℕ) → FailsRead fault reported → faults_at fault n ≡ faults_after_fault reported n
 read_counted fault reported n (inl (e, f)) = ap (λ (g : StoreFault). faults_at g n) e ∙ ap (λ (g : NodeFault). faults_after_fault g n) (sym f)
 read_counted fault reported n (inr (e, f)) = ap (λ (g : StoreFault). faults_at g n) e ∙ ap (λ (g : NodeFault). faults_after_fault g n) (sym f)
+
+-- ---- what was decoded of a read, or not
+
+pub decoded_at : (name : List ℕ) (given : Option (List ℕ)) (read : Result (Option (Vec ℕ Global)) StoreFault) (file : Segment × ℕ) → IsDecoded name read file → IfOk read (λ found. bytes_read found ≡ given)
+    → (file_at name given ≡ Ok file.0) × (file.1 ≡ size_of given)
+decoded_at name given (Err why) file h is = absurd h
+decoded_at name given (Ok found) file h is = (ap (file_at name) (sym is) ∙ h.0, h.1 ∙ ap size_of is)
+
+pub decoded_named : (name : List ℕ) (read : Result (Option (Vec ℕ Global)) StoreFault) (file : Segment × ℕ) → IsDecoded name read file → name ≡ file_name file.0.descriptor.id
+decoded_named name (Err why) file h = absurd h
+decoded_named name (Ok found) file h = file_named name (bytes_read found) file.0 h.0
+
+pub decoded_counted : (name : List ℕ) (read : Result (Option (Vec ℕ Global)) StoreFault) (file : Segment × ℕ) (n : ℕ) → IsDecoded name read file → faults_after read n ≡ n
+decoded_counted name (Err why) file n h = absurd h
+decoded_counted name (Ok found) file n h = refl
+
+pub decode_refuses : (incarnation : ℕ) (name : List ℕ) (given : Option (List ℕ)) (read : Result (Option (Vec ℕ Global)) StoreFault) (seen : Point) (fault : NodeFault) → RefusesDecode name read fault → IfOk read (λ found. bytes_read found ≡ given)
+    → RefusesFile incarnation (file_at name given) seen fault
+decode_refuses incarnation name given (Err why) seen fault h is = read_refuses incarnation (file_at name given) seen why fault h
+decode_refuses incarnation name given (Ok found) seen fault h is = found_refuse incarnation name (bytes_read found) given seen fault is h
+
+pub decode_own : (name : List ℕ) (read : Result (Option (Vec ℕ Global)) StoreFault) (fault : NodeFault) → RefusesDecode name read fault → IsOfFile fault
+decode_own name (Err why) fault h = read_own why fault h
+decode_own name (Ok found) fault h = found_own name (bytes_read found) fault h
+
+pub decode_counted : (name : List ℕ) (read : Result (Option (Vec ℕ Global)) StoreFault) (fault : NodeFault) (n : ℕ) → RefusesDecode name read fault → faults_after read n ≡ faults_after_fault fault n
+decode_counted name (Err why) fault n h = read_counted why fault n h
+decode_counted name (Ok found) fault n h = sym (found_uncounted name (bytes_read found) fault n h)

@@ -1,12 +1,14 @@
 -- What a file gives a node.
-use Rattle.std.specs.Prelude.{◌≡◌, ◌++◌, ⊤, ℕ, List, codes, length, bytes_eq, Option, Some, None, Result, Ok, Err, IsOk, if◌then◌else◌}
+use Rattle.std.specs.Prelude.{◌≡◌, ◌⊎◌, ◌++◌, ⊤, ℕ, List, Vec, codes, length, bytes_eq, Option, Some, None, Result, Ok, Err, IsOk, if◌then◌else◌}
+use Rattle.std.specs.declared.alloc.Global.{Global}
 use Rattle.druid_segid.specs.Identifier.{Identifier, identifier_text}
 use Rattle.druid_rows.specs.Segment.{Segment}
 use Rattle.druid_shard.specs.Mark.{Point}
 use Rattle.druid_segfile.specs.Reading.{segment_at}
 use Rattle.druid_segfile.specs.declared.fault.FileFault.{FileFault}
 use Rattle.druid_segfile.specs.declared.fault.FileFault.TheVariants as file
-use Rattle.druid_folder.specs.Folder.{faults_at}
+use Rattle.druid_folder.specs.Folder.{bytes_read, faults_at}
+use Rattle.druid_folder.specs.declared.fault.StoreFault.{StoreFault}
 use Rattle.druid_folder.specs.declared.fault.StoreFault.TheVariants as store
 use Rattle.druid_node.specs.Seen.{IsStale, IsLoadRefusal}
 use Rattle.druid_node.specs.declared.fault.NodeFault.{NodeFault}
@@ -87,6 +89,20 @@ RefusesBytes name bytes faults.Memory = IsOk (segment_at bytes)
 abbrev pub RefusesFound : List ℕ → Option (List ℕ) → NodeFault → Type 0
 RefusesFound name None fault = fault ≡ faults.NoFile
 RefusesFound name (Some bytes) fault = RefusesBytes name bytes fault
+
+-- what a failed read of a folder tells
+abbrev pub FailsRead : StoreFault → NodeFault → Type 0
+FailsRead why fault = ((why ≡ store.Device) × (fault ≡ faults.Device)) ⊎ ((why ≡ store.Memory) × (fault ≡ faults.Memory))
+
+-- the segment of what a folder gave under that name, and how many bytes its file has
+abbrev pub IsDecoded : List ℕ → Result (Option (Vec ℕ Global)) StoreFault → Segment × ℕ → Type 0
+IsDecoded name (Err why) file = ⊥
+IsDecoded name (Ok found) file = (file_at name (bytes_read found) ≡ Ok file.0) × (file.1 ≡ size_of (bytes_read found))
+
+-- why there is none
+abbrev pub RefusesDecode : List ℕ → Result (Option (Vec ℕ Global)) StoreFault → NodeFault → Type 0
+RefusesDecode name (Err why) fault = FailsRead why fault
+RefusesDecode name (Ok found) fault = RefusesFound name (bytes_read found) fault
 
 -- how often the device has failed after a load: a failure counts
 abbrev pub faults_after_fault : NodeFault → ℕ → ℕ

@@ -6,7 +6,7 @@ ghost use Rattle.druid_changes.specs.Kept.{described_named};
 ghost use Rattle.druid_rows.specs.Segment.{Segment};
 ghost use Rattle.druid_folder.specs.Folder.{IsOwnFault, read_part, bytes_read};
 ghost use Rattle.druid_segfile.specs.Reading.{segment_at};
-ghost use Rattle.druid_node.specs.Files.{file_name, named, file_at, reported_as, RefusesFile, IsOfFile, size_of, RefusesBytes, RefusesFound, faults_after_load};
+ghost use Rattle.druid_node.specs.Files.{file_name, named, file_at, reported_as, RefusesFile, IsOfFile, size_of, RefusesBytes, RefusesFound, FailsRead, IsDecoded, RefusesDecode, faults_after_load};
 ghost use Rattle.druid_node.specs.State.{Takes, Covers, RefusesToCover, RefusesToDrop};
 ghost use Rattle.druid_node.specs.Seen.{Changes, Drops, RefusesChange, IsStale, RefusesLoad, RefusesDrop, RefusesTombstone, AnswersFrom};
 ghost use Rattle.druid_message.specs.Requests.{path_of};
@@ -43,7 +43,7 @@ pub struct DataNode<I: Incarnation> {
 // What a failed read of a folder tells.
 fn read_fault(fault: StoreFault) -> NodeFault
     requires { IsOwnFault fault }
-    ensures { ((fault ≡ StoreFault.Device) × (result ≡ NodeFault.Device)) ⊎ ((fault ≡ StoreFault.Memory) × (result ≡ NodeFault.Memory)) }
+    ensures { FailsRead fault result }
 {
     match fault {
         StoreFault::Device => NodeFault::Device,
@@ -118,13 +118,38 @@ fn size_of(found: &Option<Vec<u8>>) -> usize
 }
 
 // The segment of what a folder gave under that name.
-fn found_segment(alloc: Global, name: &str, found: Option<Vec<u8>>) -> Result<Segment, NodeFault>
-    ensures ok { IfOk result (λ s. file_at name.now (bytes_read found) ≡ Ok s) }
-    ensures err { IfErr result (RefusesFound name.now (bytes_read found)) }
+fn found_segment(alloc: Global, name: &str, found: &Option<Vec<u8>>) -> Result<Segment, NodeFault>
+    ensures ok { IfOk result (λ s. file_at name.now (bytes_read found.now) ≡ Ok s) }
+    ensures err { IfErr result (RefusesFound name.now (bytes_read found.now)) }
 {
     match found {
-        Some(bytes) => segment_in(alloc, name, &bytes),
+        Some(bytes) => segment_in(alloc, name, bytes),
         None => Err(NodeFault::NoFile),
+    }
+}
+
+/// The segment of what a folder gave under that name, and how many bytes its file has. It takes no folder and no lock, so that
+/// threads decode files at the same time.
+///
+/// # Errors
+///
+/// N1, or N9, of the read; then N6; N2 with F1 to F6; N3. N9 may come in place of N3 too.
+pub fn decode_file(
+    alloc: Global,
+    name: &str,
+    read: &Result<Option<Vec<u8>>, StoreFault>,
+) -> Result<(Segment, usize), NodeFault>
+    requires { IfErr read.now IsOwnFault }
+    ensures ok { IfOk result (IsDecoded name.now read.now) }
+    ensures err { IfErr result (RefusesDecode name.now read.now) }
+{
+    let found = match read {
+        Ok(found) => found,
+        Err(fault) => return Err(read_fault(*fault)),
+    };
+    match found_segment(alloc, name, found) {
+        Ok(segment) => Ok((segment, size_of(found))),
+        Err(fault) => Err(fault),
     }
 }
 
@@ -171,8 +196,13 @@ impl<I: Incarnation> DataNode<I> {
         Ok(answer_for(rt, self.alloc, based, self.threads))
     }
 
-    // Loads the segment of a file of so many bytes. Its identifier is copied before, so that nothing fails after the load.
-    fn load(
+    /// Loads a segment of a file of so many bytes, as `decode_file` gives it, and sees the mark after that; gives the identifier,
+    /// by which it is dropped, and how large it is. (The identifier is copied first, so that nothing fails after the load.)
+    ///
+    /// # Errors
+    ///
+    /// N8; then those of `NodeState::load`. Leaves `seen`, and the node's state (a clause of a private call).
+    pub fn load_segment(
         &self,
         rt: &impl Wait,
         segment: Segment,
@@ -261,13 +291,9 @@ impl<I: Incarnation> DataNode<I> {
         ensures honest { F.is_honest folder.new → F.is_honest folder.old }
         ensures counted { F.faults folder.new ≡ faults_after_load result (F.faults folder.old) }
     {
-        let found = match folder.read(self.alloc, name) {
-            Ok(found) => found,
-            Err(fault) => return Err(read_fault(fault)),
-        };
-        let bytes = size_of(&found);
-        match found_segment(self.alloc, name, found) {
-            Ok(segment) => self.load(rt, segment, bytes, seen),
+        let given = folder.read(self.alloc, name);
+        match decode_file(self.alloc, name, &given) {
+            Ok((segment, bytes)) => self.load_segment(rt, segment, bytes, seen),
             Err(fault) => Err(fault),
         }
     }

@@ -16,7 +16,7 @@ mod seen;
 mod serving;
 mod state;
 
-pub use data_node::DataNode;
+pub use data_node::{DataNode, decode_file};
 pub use fault::NodeFault;
 pub use incarnation::Incarnation;
 pub use laws::rows_are_counted_once;

@@ -3,13 +3,16 @@ ghost use Rattle.std.specs.Prelude.{◌≡◌, ◌≤◌, [], None, Some, IfOk, 
 ghost use Rattle.std.specs.List.{list_any};
 ghost use Rattle.std.specs.Option.{option_copied};
 ghost use Rattle.druid_folder.specs.Folder.{AreInOrder, names_of};
+ghost use Rattle.druid_serve_node.specs.Files.{is_segment_file};
 ghost use Rattle.druid_serve_node.specs.Looks.{Notes, state_of, loaded_of, is_due, due_names, gone_names, rest_after, refused_at};
 
-use crate::node::is_segment_file;
 use druid_node::LoadedFile;
 use std::alloc::{AllocError, Global};
 use std::collections::BTreeMap;
 use std::marker::Model;
+
+// The end of the name of a segment file.
+const SEGMENT_END: &[u8] = b".seg";
 
 // The most looks from one try of a file that is refused to the next.
 const MAX_REST: u64 = 64;
@@ -21,6 +24,13 @@ pub enum FileState {
     Loaded(LoadedFile),
     /// It was refused: the look at which it is tried again, and how many looks lie between.
     Refused(u64, u64),
+}
+
+// Whether a file of that name is a segment file.
+pub(crate) fn is_segment_file(name: &str) -> bool
+    ensures { result ≡ is_segment_file name.now }
+{
+    name.as_bytes().ends_with(SEGMENT_END)
 }
 
 // Whether a file of which that is known is tried at a look.

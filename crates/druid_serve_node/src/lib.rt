@@ -8,6 +8,7 @@
 //! seen, nor below that which the node had after the loads of its start (`serve_since`).
 #![tactic(auto)]
 
+mod batch;
 mod known;
 mod latest;
 mod loader;

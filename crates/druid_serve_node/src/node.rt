@@ -11,8 +11,9 @@ ghost use Rattle.druid_incarnation.specs.Incarnation.{number_file, number_text};
 ghost use Rattle.druid_node.specs.declared.fault.NodeFault.{NodeFault as Refusal};
 ghost use Rattle.druid_server.specs.Faults.{of_node, NamesFile};
 ghost use Rattle.druid_serve_node.specs.Faults.{IsOfRaise, IsOfLoad, IsOfPlacing};
-ghost use Rattle.druid_serve_node.specs.Files.{is_segment_file, IsTaken, HoldsSegments, IsStarted};
+ghost use Rattle.druid_serve_node.specs.Files.{HoldsSegments, IsStarted};
 
+use crate::batch::{keep_segment_files, load_named};
 use crate::known::Known;
 use crate::latest::{Begun, Latest};
 use crate::loader::{Loader, Loading, start_loader};
@@ -40,10 +41,8 @@ use std::marker::Brand;
 use std::net::{Net, TcpListener, TcpStream};
 use std::rt::Files;
 use std::sync::{Arc, Wait};
+use std::thread::Threads;
 use std::time::Clock;
-
-// The end of the name of a segment file.
-const SEGMENT_END: &[u8] = b".seg";
 
 // The copies of texts.
 fn copies_of(alloc: Global, texts: &[String]) -> Result<Vec<String>, AllocError>
@@ -56,85 +55,13 @@ fn copies_of(alloc: Global, texts: &[String]) -> Result<Vec<String>, AllocError>
     Ok(copies)
 }
 
-// Whether a file of that name is a segment file.
-pub(crate) fn is_segment_file(name: &str) -> bool
-    ensures { result ≡ is_segment_file name.now }
-{
-    name.as_bytes().ends_with(SEGMENT_END)
-}
-
-// Loads a segment file, and knows it as loaded.
-fn load_one<R: Wait + Clock, F: Folder, I: Incarnation>(
+// Loads the segment files of a folder, in the order of their names, and decodes so many of them at a time.
+fn load_files<R: Wait + Threads + Sync + Clock, F: Folder, I: Incarnation>(
     rt: &R,
     alloc: Global,
     node: &DataNode<I>,
     folder: &mut F,
-    name: &str,
-    known: &mut Known,
-    reporter: &mut Reporter,
-    seen: &mut Mark,
-) -> Result<(), StartFault>
-    ensures ok { F.is_honest folder.new
-        → OnOk result ((s : Segment) × (file_at name.now (read_part (F.content folder.old name.now)) ≡ Ok s)) }
-    ensures content { F.is_honest folder.new → F.content folder.new ≡ F.content folder.old }
-    ensures honest { F.is_honest folder.new → F.is_honest folder.old }
-    ensures own { OnOk result (seen.new.incarnation ≡ I.number) }
-    ensures cause { IfErr result (λ start. (why : Refusal) × (start.fault ≡ of_node why) × IfSome start.cause (NamesFile name.now why)) }
-{
-    let file = match node.load_identified(rt, folder, name, seen) {
-        Ok(file) => file,
-        Err(fault) => {
-            reporter.refuse(rt, name, &fault);
-            return Err(StartFault::of_file(alloc, name, &fault));
-        }
-    };
-    reporter.load(rt, name, &file);
-    if known.load(name, file).is_err() {
-        return Err(StartFault::of_file(alloc, name, &NodeFault::Memory));
-    }
-    Ok(())
-}
-
-// Loads the segment files among these.
-fn load_named<R: Wait + Clock, F: Folder, I: Incarnation>(
-    rt: &R,
-    alloc: Global,
-    node: &DataNode<I>,
-    folder: &mut F,
-    names: &[String],
-    known: &mut Known,
-    reporter: &mut Reporter,
-    seen: &mut Mark,
-) -> Result<(), StartFault>
-    ensures ok { F.is_honest folder.new → OnOk result (All (IsTaken (F.content folder.old)) (names_of names.now)) }
-    ensures content { F.is_honest folder.new → F.content folder.new ≡ F.content folder.old }
-    ensures honest { F.is_honest folder.new → F.is_honest folder.old }
-    ensures own { seen.old.incarnation ≡ I.number → OnOk result (seen.new.incarnation ≡ I.number) }
-    ensures cause { IfErr result (λ start. IfSome start.cause (IsOfLoad start.fault)) }
-{
-    for name in names {
-        if is_segment_file(name.as_str()) {
-            load_one(
-                rt,
-                alloc,
-                node,
-                folder,
-                name.as_str(),
-                known,
-                reporter,
-                seen,
-            )?;
-        }
-    }
-    Ok(())
-}
-
-// Loads the segment files of a folder, in the order of their names.
-fn load_files<R: Wait + Clock, F: Folder, I: Incarnation>(
-    rt: &R,
-    alloc: Global,
-    node: &DataNode<I>,
-    folder: &mut F,
+    threads: usize,
     known: &mut Known,
     reporter: &mut Reporter,
     seen: &mut Mark,
@@ -143,11 +70,14 @@ fn load_files<R: Wait + Clock, F: Folder, I: Incarnation>(
     ensures own { seen.old.incarnation ≡ I.number → OnOk result (seen.new.incarnation ≡ I.number) }
     ensures cause { IfErr result (λ start. IfSome start.cause (IsOfLoad start.fault)) }
 {
-    let names = match folder.list(alloc) {
+    let mut names = match folder.list(alloc) {
         Ok(names) => names,
         Err(fault) => return Err(StartFault::of_store(fault, Cause::Names(fault))),
     };
-    load_named(rt, alloc, node, folder, &names, known, reporter, seen)
+    keep_segment_files(&mut names);
+    load_named(
+        rt, alloc, node, folder, &names, threads, known, reporter, seen,
+    )
 }
 
 // Places a tombstone; one that is served already is passed over.
@@ -219,8 +149,9 @@ fn first_state<F: Folder>(
     }
 }
 
-// A node that goes on from that state and counts a query on so many threads, with the segments of a folder, of which it knows the files.
-fn load_node<R: Wait + Clock, F: Folder, I: Incarnation>(
+// A node that goes on from that state and counts a query on so many threads, with the segments of a folder, of which it knows the
+// files: so many of them are decoded at a time.
+fn load_node<R: Wait + Threads + Sync + Clock, F: Folder, I: Incarnation>(
     rt: &R,
     alloc: Global,
     folder: &mut F,
@@ -236,7 +167,9 @@ fn load_node<R: Wait + Clock, F: Folder, I: Incarnation>(
     let mut seen = state.mark();
     let mut known = Known::new(alloc);
     let node = DataNode::new(state, threads);
-    load_files(rt, alloc, &node, folder, &mut known, reporter, &mut seen)?;
+    load_files(
+        rt, alloc, &node, folder, threads, &mut known, reporter, &mut seen,
+    )?;
     Ok(LoadedNode { node, known, seen })
 }
 

@@ -1,56 +1,46 @@
 use Rattle.std.proofs.Common.{ap, sym, ◌∙◌}
 use Rattle.std.proofs.lemmas.Result.{IfErr-weaker, IfOk-weaker}
-use Rattle.druid_folder.specs.Folder.{bytes_read, read_part}
-use Rattle.druid_node.specs.Files.{file_at, file_name, size_of}
-use Rattle.druid_node.proofs.FileLemmas.{found_refuse, found_own, found_uncounted, load_refuses, load_own, load_uncounted, read_refuses, read_own, read_counted, file_named}
+use Rattle.druid_folder.specs.Folder.{read_part}
+use Rattle.druid_node.specs.Files.{file_at, file_name}
+use Rattle.druid_node.proofs.FileLemmas.{decoded_at, decoded_named, decoded_counted, decode_refuses, decode_own, decode_counted, load_refuses, load_own, load_uncounted}
 use Rattle.druid_node.proofs.data_node.DataNode.load_identified.Goals as goal
 
-pub returns-in-Err-clause-err : goal.returns-in-Err-clause-err
-returns-in-Err-clause-err g c honest =
-    read_refuses g.I.Incarnation.number (file_at c.args.name.now (read_part (g.F.Folder.content c.args.folder.now c.args.name.now))) c.args.seen.now c.in-Err.fault c.read_fault.result c.read_fault.ensures
+pub returns-clause-err : goal.returns-clause-err
+returns-clause-err g c honest =
+    decode_refuses g.I.Incarnation.number c.args.name.now (read_part (g.F.Folder.content c.args.folder.now c.args.name.now)) c.read-given.result c.args.seen.now c.in-Err.fault c.in-Err.ensures.err (c.read-given.ensures.found honest)
 
-pub returns-in-Err-clause-never : goal.returns-in-Err-clause-never
-returns-in-Err-clause-never g c = read_own c.in-Err.fault c.read_fault.result c.read_fault.ensures
+pub returns-clause-never : goal.returns-clause-never
+returns-clause-never g c = decode_own c.args.name.now c.read-given.result c.in-Err.fault c.in-Err.ensures.err
 
-pub returns-in-Err-clause-counted : goal.returns-in-Err-clause-counted
-returns-in-Err-clause-counted g c =
-    c.in-Err.ensures.counted ∙ read_counted c.in-Err.fault c.read_fault.result (g.F.Folder.faults c.args.folder.now) c.read_fault.ensures
+pub returns-clause-counted : goal.returns-clause-counted
+returns-clause-counted g c =
+    c.read-given.ensures.counted ∙ decode_counted c.args.name.now c.read-given.result c.in-Err.fault (g.F.Folder.faults c.args.folder.now) c.in-Err.ensures.err
 
-pub returns-in-Err-found_segment-clause-err : goal.returns-in-Err-found_segment-clause-err
-returns-in-Err-found_segment-clause-err g c honest =
-    found_refuse g.I.Incarnation.number c.args.name.now (bytes_read c.in-Ok.found) (read_part (g.F.Folder.content c.args.folder.now c.args.name.now)) c.args.seen.now c.in-Err-found_segment.fault (c.in-Ok.ensures.found honest) c.in-Err-found_segment.ensures.err
+pub returns-in-Ok-clause-ok : goal.returns-in-Ok-clause-ok
+returns-in-Ok-clause-ok g c honest =
+    let file = decoded_at c.args.name.now (read_part (g.F.Folder.content c.args.folder.now c.args.name.now)) c.read-given.result (c.in-Ok.segment, c.in-Ok.bytes) c.in-Ok.ensures.ok (c.read-given.ensures.found honest) in
+    IfOk-weaker c.load_segment.result _ _ (λ loaded is. (c.in-Ok.segment, file.0, is.0, is.1, is.2)) c.load_segment.ensures.loaded
 
-pub returns-in-Err-found_segment-clause-never : goal.returns-in-Err-found_segment-clause-never
-returns-in-Err-found_segment-clause-never g c = found_own c.args.name.now (bytes_read c.in-Ok.found) c.in-Err-found_segment.fault c.in-Err-found_segment.ensures.err
+pub returns-in-Ok-clause-bytes : goal.returns-in-Ok-clause-bytes
+returns-in-Ok-clause-bytes g c honest =
+    let file = decoded_at c.args.name.now (read_part (g.F.Folder.content c.args.folder.now c.args.name.now)) c.read-given.result (c.in-Ok.segment, c.in-Ok.bytes) c.in-Ok.ensures.ok (c.read-given.ensures.found honest) in
+    IfOk-weaker c.load_segment.result _ _ (λ loaded is. is ∙ file.1) c.load_segment.ensures.bytes
 
-pub returns-in-Err-found_segment-clause-counted : goal.returns-in-Err-found_segment-clause-counted
-returns-in-Err-found_segment-clause-counted g c =
-    c.in-Ok.ensures.counted ∙ sym (found_uncounted c.args.name.now (bytes_read c.in-Ok.found) c.in-Err-found_segment.fault (g.F.Folder.faults c.args.folder.now) c.in-Err-found_segment.ensures.err)
+pub returns-in-Ok-clause-id : goal.returns-in-Ok-clause-id
+returns-in-Ok-clause-id g c =
+    IfOk-weaker c.load_segment.result _ _ (λ loaded is. decoded_named c.args.name.now c.read-given.result (c.in-Ok.segment, c.in-Ok.bytes) c.in-Ok.ensures.ok ∙ ap file_name (sym is.0)) c.load_segment.ensures.loaded
 
-pub returns-in-Ok-found_segment-clause-ok : goal.returns-in-Ok-found_segment-clause-ok
-returns-in-Ok-found_segment-clause-ok g c honest =
-    let given = ap (file_at c.args.name.now) (sym (c.in-Ok.ensures.found honest)) ∙ c.in-Ok-found_segment.ensures.ok in
-    IfOk-weaker c.load.result _ _ (λ loaded is. (c.in-Ok-found_segment.segment, given, is.0, is.1, is.2)) c.load.ensures.loaded
+pub returns-in-Ok-clause-err : goal.returns-in-Ok-clause-err
+returns-in-Ok-clause-err g c honest =
+    let given = read_part (g.F.Folder.content c.args.folder.now c.args.name.now) in
+    let file = decoded_at c.args.name.now given c.read-given.result (c.in-Ok.segment, c.in-Ok.bytes) c.in-Ok.ensures.ok (c.read-given.ensures.found honest) in
+    IfErr-weaker c.load_segment.result _ _ (λ fault h. load_refuses g.I.Incarnation.number (file_at c.args.name.now given) c.args.seen.now c.in-Ok.segment fault file.0 h) c.load_segment.ensures.err
 
-pub returns-in-Ok-found_segment-clause-bytes : goal.returns-in-Ok-found_segment-clause-bytes
-returns-in-Ok-found_segment-clause-bytes g c honest =
-    IfOk-weaker c.load.result _ _ (λ loaded is. is ∙ c.size_of-bytes.ensures ∙ ap size_of (c.in-Ok.ensures.found honest)) c.load.ensures.bytes
+pub returns-in-Ok-clause-never : goal.returns-in-Ok-clause-never
+returns-in-Ok-clause-never g c =
+    IfErr-weaker c.load_segment.result _ _ (λ fault h. load_own g.I.Incarnation.number c.args.seen.now fault h) c.load_segment.ensures.err
 
-pub returns-in-Ok-found_segment-clause-id : goal.returns-in-Ok-found_segment-clause-id
-returns-in-Ok-found_segment-clause-id g c =
-    let s = c.in-Ok-found_segment.segment in
-    IfOk-weaker c.load.result _ _ (λ loaded is. file_named c.args.name.now (bytes_read c.in-Ok.found) s c.in-Ok-found_segment.ensures.ok ∙ ap file_name (sym is.0)) c.load.ensures.loaded
-
-pub returns-in-Ok-found_segment-clause-err : goal.returns-in-Ok-found_segment-clause-err
-returns-in-Ok-found_segment-clause-err g c honest =
-    let s = c.in-Ok-found_segment.segment in
-    let given = ap (file_at c.args.name.now) (sym (c.in-Ok.ensures.found honest)) ∙ c.in-Ok-found_segment.ensures.ok in
-    IfErr-weaker c.load.result _ _ (λ fault h. load_refuses g.I.Incarnation.number (file_at c.args.name.now (read_part (g.F.Folder.content c.args.folder.now c.args.name.now))) c.args.seen.now s fault given h) c.load.ensures.err
-
-pub returns-in-Ok-found_segment-clause-never : goal.returns-in-Ok-found_segment-clause-never
-returns-in-Ok-found_segment-clause-never g c =
-    IfErr-weaker c.load.result _ _ (λ fault h. load_own g.I.Incarnation.number c.args.seen.now fault h) c.load.ensures.err
-
-pub returns-in-Ok-found_segment-clause-counted : goal.returns-in-Ok-found_segment-clause-counted
-returns-in-Ok-found_segment-clause-counted g c =
-    c.in-Ok.ensures.counted ∙ sym (load_uncounted g.I.Incarnation.number c.args.seen.now c.load.result (g.F.Folder.faults c.args.folder.now) c.load.ensures.err)
+pub returns-in-Ok-clause-counted : goal.returns-in-Ok-clause-counted
+returns-in-Ok-clause-counted g c =
+    c.read-given.ensures.counted ∙ decoded_counted c.args.name.now c.read-given.result (c.in-Ok.segment, c.in-Ok.bytes) (g.F.Folder.faults c.args.folder.now) c.in-Ok.ensures.ok
+    ∙ sym (load_uncounted g.I.Incarnation.number c.args.seen.now c.load_segment.result (g.F.Folder.faults c.args.folder.now) c.load_segment.ensures.err)
