@@ -1,5 +1,5 @@
 //! A data node, whose lock is held to take what an answer is made of, and not while that is made.
-ghost use Rattle.std.specs.Prelude.{◌≡◌, ◌⊎◌, Some, Ok, IfOk, IfErr, OnOk, OnErr, bytes_eq, length};
+ghost use Rattle.std.specs.Prelude.{◌≡◌, Some, Ok, IfOk, IfErr, OnOk, OnErr, bytes_eq, length};
 ghost use Rattle.std.specs.declared.cmp.Ordering.TheVariants.{Less};
 ghost use Rattle.druid_shard.specs.Mark.{Point, mark_cmp};
 ghost use Rattle.druid_changes.specs.Kept.{described_named};

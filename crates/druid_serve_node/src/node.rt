@@ -1,15 +1,10 @@
 //! A data node: its folder, its sockets and its threads. A tombstone that is refused, but for one
 //! of what is served already, ends the start as a segment file does: a config that says that an
 //! interval is empty is not half followed.
-ghost use Rattle.std.specs.Prelude.{◌≡◌, ◌≤◌, [], All, Some, Ok, length, IfOk, IfErr, IfSome, OnOk, map, string_bytes};
+ghost use Rattle.std.specs.Prelude.{◌≡◌, ◌≤◌, [], Some, length, IfOk, IfErr, IfSome, OnOk, map, string_bytes};
 ghost use Rattle.druid_shard.specs.Reply.{max_changes};
 ghost use Rattle.druid_changes.specs.Kept.{StandsFor};
-ghost use Rattle.druid_rows.specs.Segment.{Segment};
-ghost use Rattle.druid_folder.specs.Folder.{names_of, read_part};
-ghost use Rattle.druid_node.specs.Files.{file_at};
 ghost use Rattle.druid_incarnation.specs.Incarnation.{number_file, number_text};
-ghost use Rattle.druid_node.specs.declared.fault.NodeFault.{NodeFault as Refusal};
-ghost use Rattle.druid_server.specs.Faults.{of_node, NamesFile};
 ghost use Rattle.druid_serve_node.specs.Faults.{IsOfRaise, IsOfLoad, IsOfPlacing};
 ghost use Rattle.druid_serve_node.specs.Files.{HoldsSegments, IsStarted};
 
