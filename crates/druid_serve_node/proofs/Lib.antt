@@ -1,4 +1,4 @@
-pub mod BatchLemmas
 pub mod FolderLemmas
 pub mod KnownLemmas
+pub mod SegmentFileLemmas
 pub mod WatchLemmas

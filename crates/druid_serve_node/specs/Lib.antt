@@ -3,5 +3,5 @@ pub mod Faults
 pub mod Files
 pub mod Looks
 -- words of private contracts
-pub mod Batches
 pub mod Layout
+pub mod SegmentFiles

@@ -8,13 +8,13 @@
 //! seen, nor below that which the node had after the loads of its start (`serve_since`).
 #![tactic(auto)]
 
-mod batch;
 mod known;
 mod latest;
 mod loader;
 mod node;
 mod owner;
 mod reporter;
+mod segment_files;
 mod status;
 mod watch;
 mod worker;

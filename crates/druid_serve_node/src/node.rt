@@ -8,12 +8,12 @@ ghost use Rattle.druid_incarnation.specs.Incarnation.{number_file, number_text};
 ghost use Rattle.druid_serve_node.specs.Faults.{IsOfRaise, IsOfLoad, IsOfPlacing};
 ghost use Rattle.druid_serve_node.specs.Files.{HoldsSegments, IsStarted};
 
-use crate::batch::{keep_segment_files, load_named};
 use crate::known::Known;
 use crate::latest::{Begun, Latest};
 use crate::loader::{Loader, Loading, start_loader};
 use crate::owner::{Owner, own_folder};
 use crate::reporter::Reporter;
+use crate::segment_files::{keep_segment_files, load_named};
 use crate::status::NodeStatus;
 use crate::watch::Watch;
 use crate::worker::start_worker;

@@ -6,7 +6,7 @@ use Rattle.std.proofs.lemmas.List.Elements.{All-contains}
 use Rattle.std.proofs.lemmas.Result.{on_ok_weaker}
 use Rattle.druid_folder.specs.Folder.{Content, names_of}
 use Rattle.druid_serve_node.specs.Files.{is_segment_file, IsTaken, HoldsSegments}
-use Rattle.druid_serve_node.proofs.BatchLemmas.{left_named, left_taken}
+use Rattle.druid_serve_node.proofs.SegmentFileLemmas.{left_named, left_taken}
 use Rattle.druid_serve_node.proofs.node.load_files.Goals as goal
 
 pub load_named-requires-after_bounds : goal.load_named-requires-after_bounds

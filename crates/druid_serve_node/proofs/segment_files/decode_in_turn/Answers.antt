@@ -1,9 +1,9 @@
 use Rattle.std.proofs.Common.{◌≡◌, ◌++◌, ◌∷◌, [], List, sym, subst, rules}
 use Rattle.std.specs.List.{AllZip}
-use Rattle.druid_serve_node.specs.Batches.{IsDecodedOf}
-use Rattle.druid_serve_node.specs.declared.batch.DecodedFile.{DecodedFile}
-use Rattle.druid_serve_node.proofs.BatchLemmas.{zip_push}
-use Rattle.druid_serve_node.proofs.batch.decode_in_turn.Goals as goal
+use Rattle.druid_serve_node.specs.SegmentFiles.{IsDecodedOf}
+use Rattle.druid_serve_node.specs.declared.segment_files.DecodedFile.{DecodedFile}
+use Rattle.druid_serve_node.proofs.SegmentFileLemmas.{zip_push}
+use Rattle.druid_serve_node.proofs.segment_files.decode_in_turn.Goals as goal
 
 pub loop-file-preserved : goal.loop-file-preserved
 loop-file-preserved c =

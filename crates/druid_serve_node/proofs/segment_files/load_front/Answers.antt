@@ -4,9 +4,9 @@ use Rattle.druid_folder.specs.Folder.{names_of}
 use Rattle.druid_node.specs.declared.fault.NodeFault.TheVariants.{Memory}
 use Rattle.druid_server.specs.Faults.{NamesFile}
 use Rattle.druid_serve_node.specs.Files.{is_segment_file, IsTaken}
-use Rattle.druid_serve_node.specs.declared.batch.DecodedFile.{DecodedFile}
-use Rattle.druid_serve_node.proofs.BatchLemmas.{of_names, to_names, all_taken, cause_of_load}
-use Rattle.druid_serve_node.proofs.batch.load_batch.Goals as goal
+use Rattle.druid_serve_node.specs.declared.segment_files.DecodedFile.{DecodedFile}
+use Rattle.druid_serve_node.proofs.SegmentFileLemmas.{of_names, to_names, all_taken, cause_of_load}
+use Rattle.druid_serve_node.proofs.segment_files.load_front.Goals as goal
 
 pub returns-in_default-clause-cause : goal.returns-in_default-clause-cause
 returns-in_default-clause-cause g c =

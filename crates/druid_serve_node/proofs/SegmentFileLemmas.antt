@@ -1,4 +1,4 @@
--- Files that are read, decoded and loaded, a batch at a time.
+-- Segment files that are read, decoded and loaded, as many at a time as there are threads.
 use Rattle.std.proofs.Common.{zero, suc, ◌≡◌, ◌++◌, ◌+◌, ◌<◌, ℕ, Bool, true, false, cond, List, [], ◌∷◌, All, map, take, drop, length, Option, Some, None, IfSome, slice_index_or, Result, Ok, Err, IsOk, IfOk, Vec, Global, string_bytes, refl, sym, ap, subst, ◌∙◌, arith}
 use Rattle.std.specs.List.{AllZip, filter}
 use Rattle.std.specs.declared.alloc.AllocError.{AllocError}
@@ -18,9 +18,9 @@ use Rattle.druid_server.specs.declared.fault.Cause.TheVariants as cause
 use Rattle.druid_server.specs.Faults.{of_node, NamesFile}
 use Rattle.druid_serve_node.specs.Faults.{IsOfLoad}
 use Rattle.druid_serve_node.specs.Files.{is_segment_file, IsTaken}
-use Rattle.druid_serve_node.specs.Batches.{IsRead, IsDecodedOf, IsFound}
-use Rattle.druid_serve_node.specs.declared.batch.ReadFile.{ReadFile}
-use Rattle.druid_serve_node.specs.declared.batch.DecodedFile.{DecodedFile}
+use Rattle.druid_serve_node.specs.SegmentFiles.{IsRead, IsDecodedOf, IsFound}
+use Rattle.druid_serve_node.specs.declared.segment_files.ReadFile.{ReadFile}
+use Rattle.druid_serve_node.specs.declared.segment_files.DecodedFile.{DecodedFile}
 
 -- ---- lists, place by place
 

@@ -1,7 +1,7 @@
 use Rattle.std.proofs.Common.{◌≡◌, true, All, length}
 use Rattle.druid_folder.specs.Folder.{names_of}
 use Rattle.druid_serve_node.specs.Files.{is_segment_file, IsTaken}
-use Rattle.druid_serve_node.proofs.batch.load_named.Given as goal
+use Rattle.druid_serve_node.proofs.segment_files.load_named.Given as goal
 
 abbrev pub invariant-loop-rest : goal.invariant-loop-rest
 invariant-loop-rest g l = record {

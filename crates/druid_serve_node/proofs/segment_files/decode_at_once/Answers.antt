@@ -1,9 +1,9 @@
 use Rattle.std.proofs.Common.{slice_index_or, sym, subst, rules}
 use Rattle.std.proofs.lemmas.Result.{IfOk-weaker}
-use Rattle.druid_serve_node.specs.Batches.{IsDecodedOf}
-use Rattle.druid_serve_node.specs.declared.batch.ReadFile.{ReadFile}
-use Rattle.druid_serve_node.proofs.BatchLemmas.{decoded_at_once}
-use Rattle.druid_serve_node.proofs.batch.decode_at_once.Goals as goal
+use Rattle.druid_serve_node.specs.SegmentFiles.{IsDecodedOf}
+use Rattle.druid_serve_node.specs.declared.segment_files.ReadFile.{ReadFile}
+use Rattle.druid_serve_node.proofs.SegmentFileLemmas.{decoded_at_once}
+use Rattle.druid_serve_node.proofs.segment_files.decode_at_once.Goals as goal
 
 pub returns : goal.returns
 returns g c =

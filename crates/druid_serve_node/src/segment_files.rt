@@ -7,7 +7,7 @@ ghost use Rattle.druid_node.specs.declared.fault.NodeFault.{NodeFault as Refusal
 ghost use Rattle.druid_server.specs.Faults.{of_node, NamesFile};
 ghost use Rattle.druid_serve_node.specs.Faults.{IsOfLoad};
 ghost use Rattle.druid_serve_node.specs.Files.{is_segment_file, IsTaken};
-ghost use Rattle.druid_serve_node.specs.Batches.{IsRead, IsDecodedOf, IsFound};
+ghost use Rattle.druid_serve_node.specs.SegmentFiles.{IsRead, IsDecodedOf, IsFound};
 
 use crate::known::{Known, is_segment_file};
 use crate::reporter::Reporter;
@@ -198,7 +198,7 @@ fn decode_files<'a, R: Threads + Sync, F: Folder>(
 }
 
 // Loads the files of these names, decoded at the same time.
-fn load_batch<R: Wait + Threads + Sync + Clock, F: Folder, I: Incarnation>(
+fn load_front<R: Wait + Threads + Sync + Clock, F: Folder, I: Incarnation>(
     rt: &R,
     alloc: Global,
     node: &DataNode<I>,
@@ -243,8 +243,8 @@ pub(crate) fn load_named<R: Wait + Threads + Sync + Clock, F: Folder, I: Incarna
 {
     let mut rest = names;
     while !rest.is_empty() {
-        let (batch, later) = rest.split_at(threads.max(1).min(rest.len()));
-        load_batch(rt, alloc, node, folder, batch, known, reporter, seen)?;
+        let (front, later) = rest.split_at(threads.max(1).min(rest.len()));
+        load_front(rt, alloc, node, folder, front, known, reporter, seen)?;
         rest = later;
     }
     Ok(())

@@ -2,8 +2,8 @@
 use Rattle.std.specs.Prelude.{◌≡◌, List, Ok, IfOk}
 use Rattle.druid_folder.specs.Folder.{Content, read_part, bytes_read}
 use Rattle.druid_node.specs.Files.{file_at, IsDecoded}
-use Rattle.druid_serve_node.specs.declared.batch.ReadFile.{ReadFile}
-use Rattle.druid_serve_node.specs.declared.batch.DecodedFile.{DecodedFile}
+use Rattle.druid_serve_node.specs.declared.segment_files.ReadFile.{ReadFile}
+use Rattle.druid_serve_node.specs.declared.segment_files.DecodedFile.{DecodedFile}
 
 -- what was read is what the folder has under the name
 abbrev pub IsRead : Content → ReadFile → Type 0

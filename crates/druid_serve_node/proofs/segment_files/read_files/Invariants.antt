@@ -1,8 +1,8 @@
 use Rattle.std.proofs.Common.{◌≡◌, All, IfErr, map, take}
 use Rattle.druid_folder.specs.Folder.{IsOwnFault, names_of}
-use Rattle.druid_serve_node.specs.Batches.{IsRead}
-use Rattle.druid_serve_node.specs.declared.batch.ReadFile.{ReadFile}
-use Rattle.druid_serve_node.proofs.batch.read_files.Given as goal
+use Rattle.druid_serve_node.specs.SegmentFiles.{IsRead}
+use Rattle.druid_serve_node.specs.declared.segment_files.ReadFile.{ReadFile}
+use Rattle.druid_serve_node.proofs.segment_files.read_files.Given as goal
 
 abbrev pub invariant-loop-name : goal.invariant-loop-name
 invariant-loop-name g l = record {

@@ -1,6 +1,6 @@
 use Rattle.std.proofs.Common.{◌≡◌, All, IsOk}
-use Rattle.druid_serve_node.specs.declared.batch.DecodedFile.{DecodedFile}
-use Rattle.druid_serve_node.proofs.batch.load_decoded.Given as goal
+use Rattle.druid_serve_node.specs.declared.segment_files.DecodedFile.{DecodedFile}
+use Rattle.druid_serve_node.proofs.segment_files.load_decoded.Given as goal
 
 abbrev pub invariant-loop-file : goal.invariant-loop-file
 invariant-loop-file g l = record {

@@ -1,7 +1,7 @@
 use Rattle.std.proofs.Common.{◌∙◌}
 use Rattle.std.proofs.lemmas.Result.{IfOk-weaker}
-use Rattle.druid_serve_node.proofs.BatchLemmas.{same_names, all_found}
-use Rattle.druid_serve_node.proofs.batch.decode_files.Goals as goal
+use Rattle.druid_serve_node.proofs.SegmentFileLemmas.{same_names, all_found}
+use Rattle.druid_serve_node.proofs.segment_files.decode_files.Goals as goal
 
 pub returns-then-bytes_in-lt-SMALL-clause-names : goal.returns-then-bytes_in-lt-SMALL-clause-names
 returns-then-bytes_in-lt-SMALL-clause-names g c =

@@ -1,7 +1,7 @@
 use Rattle.std.proofs.Common.{IsOk}
 use Rattle.std.proofs.lemmas.List.Elements.{All-push}
-use Rattle.druid_serve_node.specs.declared.batch.DecodedFile.{DecodedFile}
-use Rattle.druid_serve_node.proofs.batch.load_decoded.Goals as goal
+use Rattle.druid_serve_node.specs.declared.segment_files.DecodedFile.{DecodedFile}
+use Rattle.druid_serve_node.proofs.segment_files.load_decoded.Goals as goal
 
 pub loop-file-preserved : goal.loop-file-preserved
 loop-file-preserved g c = record {
