@@ -33,6 +33,8 @@ mod serve;
 #[cfg(test)]
 mod serve_node;
 #[cfg(test)]
+mod started;
+#[cfg(test)]
 mod words;
 #[cfg(test)]
 mod workers;
