@@ -1,4 +1,5 @@
 -- what public contracts rest on
+pub mod Metrics
 pub mod Names
 pub mod Rows
 pub mod Segment

@@ -136,15 +136,6 @@ fn number_length(value: Option<i64>) -> usize
     }
 }
 
-// For the proof: a number that is read is of 64 bits.
-pub(crate) fn read_numbers(values: &[Option<i64>])
-    ensures { AreWords values.now }
-{
-    for value in values {
-        let _ = number_length(*value);
-    }
-}
-
 #[tactic(auto, using(crate::proofs::LengthLemmas::sum_numbers, std::proofs::lemmas::List::Sums::sum_by_more_le, std::proofs::lemmas::Grind::common_steps))]
 fn room_after_numbers(values: &[Option<i64>], mut room: usize) -> Option<usize>
     ensures value { SomeIff result (sum (map number_value_length values.now) ≤ room)

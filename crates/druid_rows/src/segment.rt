@@ -10,7 +10,6 @@ ghost use Rattle.druid_rows.specs.Segment.{Segment, IsWithinLimits, HaveShape, A
 use crate::column::Column;
 use crate::limits::{MAX_FIELDS, MAX_ROWS, MAX_TEXT};
 use crate::numbers::Numbers;
-use crate::row_ref::read_numbers;
 use crate::table::Table;
 use crate::table_builder::table_of_rows;
 use crate::{Row, RowFault, Schema};
@@ -151,7 +150,7 @@ fn read_metrics(columns: &[Numbers])
     ensures { All AreWords columns.now }
 {
     for column in columns {
-        read_numbers(column.values());
+        column.read();
     }
 }
 
@@ -339,7 +338,7 @@ impl Segment {
     }
 
     /// The number or null of each row for the metric at that place.
-    pub fn numbers(&self, metric: usize) -> &[Option<i64>]
+    pub fn numbers(&self, metric: usize) -> &Numbers
         requires { metric < length self.now.fields.metrics }
         ensures { result.now ≡ map (λ row. slice_index_or row.metrics metric None) self.now.rows }
     {

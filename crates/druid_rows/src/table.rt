@@ -77,7 +77,8 @@ impl Table {
         self.times[row]
     }
 
-    fn metric_column(&self, metric: usize) -> &Numbers
+    // The number or null of each row for that metric.
+    pub(crate) fn numbers(&self, metric: usize) -> &Numbers
         requires { metric < self.now.metrics }
         ensures { result.now ≡ map (λ row. slice_index_or row.metrics metric None) self.now.rows }
     {
@@ -109,7 +110,7 @@ impl Table {
         requires metric { metric < self.now.metrics }
         ensures { result ≡ slice_index_or (slice_index_or self.now.rows row no_row).metrics metric None }
     {
-        self.metric_column(metric).get(row)
+        self.numbers(metric).get(row)
     }
 
     // The texts that rows have for that dimension, each once, in order.
@@ -134,14 +135,6 @@ impl Table {
         ensures { result.now ≡ map (λ row. row.time) self.now.rows }
     {
         &self.times
-    }
-
-    // The number or null of each row for that metric.
-    pub(crate) fn numbers(&self, metric: usize) -> &[Option<i64>]
-        requires { metric < self.now.metrics }
-        ensures { result.now ≡ map (λ row. slice_index_or row.metrics metric None) self.now.rows }
-    {
-        self.metric_column(metric).values()
     }
 
     // Whether no row's instant is below that of the row before it.

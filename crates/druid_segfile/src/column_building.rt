@@ -135,7 +135,7 @@ impl<'a> Cursor<'a> {
         if let Err(_) = self.count_marks(rows) {
             unreachable!();
         }
-        let mut numbers = Vec::with_capacity(alloc, rows)?;
+        let mut numbers = Numbers::with_capacity(alloc, rows)?;
         for _ in 0..rows {
             let mark = match marks.mark() {
                 Ok(mark) => mark,
@@ -147,7 +147,7 @@ impl<'a> Cursor<'a> {
             };
             numbers.push(number)?;
         }
-        Ok(Numbers::of(numbers))
+        Ok(numbers)
     }
 
     // That many metrics.

@@ -5,7 +5,7 @@ ghost use Rattle.druid_rows.specs.Rows.{texts_of};
 ghost use Rattle.druid_rows.specs.Segment.{max_rows, max_text, number_value_length};
 ghost use Rattle.druid_segfile.specs.ColumnSpelling.{Coded, AreCoded, value, dimension, metric, numbers_of, column_spelling};
 
-use druid_rows::Segment;
+use druid_rows::{Numbers, Segment};
 
 // The room that texts, each after its length, leave of this room. None where they are longer.
 #[tactic(auto, using(crate::proofs::ColumnRoomLemmas::length_values, std::proofs::lemmas::List::Sums::sum_by_more_le, std::proofs::lemmas::Grind::common_steps))]
@@ -51,11 +51,11 @@ fn number_length(number: Option<i64>) -> usize
 
 // The room that the marks of these numbers, and those that there are, leave of this room. None where they are longer.
 #[tactic(auto, using(crate::proofs::ColumnRoomLemmas::length_metric, std::proofs::lemmas::List::Sums::sum_by_more_le, std::proofs::lemmas::Grind::common_steps))]
-fn room_after_numbers(numbers: &[Option<i64>], mut room: usize) -> Option<usize>
+fn room_after_numbers(numbers: &Numbers, mut room: usize) -> Option<usize>
     ensures { SomeIff result (length (metric numbers.now) ≤ room) (room - length (metric numbers.now)) }
 {
-    for number in numbers {
-        room = room.checked_sub(number_length(*number))?;
+    for row in 0..numbers.len() {
+        room = room.checked_sub(number_length(numbers.get(row)))?;
     }
     Some(room)
 }

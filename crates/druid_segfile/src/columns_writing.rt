@@ -15,7 +15,7 @@ use crate::FileFault;
 use crate::columns_room::is_short;
 use crate::spelling::{append_instant, column_heading};
 use crate::writing::{write_gathered, write_out};
-use druid_rows::Segment;
+use druid_rows::{Numbers, Segment};
 use druid_time::Instant;
 use std::alloc::{AllocError, Global};
 use std::io::Write;
@@ -88,28 +88,28 @@ fn append_present(out: &mut Vec<u8>, number: Option<i64>) -> Result<(), AllocErr
     }
 }
 
-fn append_marks(out: &mut Vec<u8>, numbers: &[Option<i64>]) -> Result<(), AllocError>
+fn append_marks(out: &mut Vec<u8>, numbers: &Numbers) -> Result<(), AllocError>
     ensures ok { OnOk result (out.new.items ≡ out.old.items ++ flat_map mark numbers.now) }
     ensures some { OnErr result (0 < length numbers.now) }
 {
-    for number in numbers {
-        append_mark(out, *number)?;
+    for row in 0..numbers.len() {
+        append_mark(out, numbers.get(row))?;
     }
     Ok(())
 }
 
-fn append_numbers(out: &mut Vec<u8>, numbers: &[Option<i64>]) -> Result<(), AllocError>
+fn append_numbers(out: &mut Vec<u8>, numbers: &Numbers) -> Result<(), AllocError>
     ensures ok { OnOk result (out.new.items ≡ out.old.items ++ flat_map present numbers.now) }
     ensures some { OnErr result (0 < length numbers.now) }
 {
-    for number in numbers {
-        append_present(out, *number)?;
+    for row in 0..numbers.len() {
+        append_present(out, numbers.get(row))?;
     }
     Ok(())
 }
 
 // A mark for each row, and then the numbers that there are.
-fn append_metric(out: &mut Vec<u8>, numbers: &[Option<i64>]) -> Result<(), AllocError>
+fn append_metric(out: &mut Vec<u8>, numbers: &Numbers) -> Result<(), AllocError>
     ensures ok { OnOk result (out.new.items ≡ out.old.items ++ metric numbers.now) }
     ensures some { OnErr result (0 < length numbers.now) }
 {

@@ -3,6 +3,6 @@ use Rattle.std.specs.List.{sum_by}
 use Rattle.druid_rows.specs.Segment.{number_value_length}
 use Rattle.druid_segfile.proofs.columns_room.room_after_numbers.Given as goal
 
-abbrev pub invariant-loop-number : goal.invariant-loop-number
-invariant-loop-number l =
-    l.room + sum_by number_value_length (take l.number-index l.numbers) ≡ l.initial.room
+abbrev pub invariant-loop-row : goal.invariant-loop-row
+invariant-loop-row l =
+    l.room + sum_by number_value_length (take l.row l.numbers) ≡ l.initial.room

@@ -3,6 +3,6 @@ use Rattle.std.specs.List.{flat_map}
 use Rattle.druid_segfile.specs.ColumnSpelling.{present}
 use Rattle.druid_segfile.proofs.columns_writing.append_numbers.Given as goal
 
-abbrev pub invariant-loop-number : goal.invariant-loop-number
-invariant-loop-number l =
-    l.out.items ≡ l.fn.out.items ++ flat_map present (take l.number-index l.numbers)
+abbrev pub invariant-loop-row : goal.invariant-loop-row
+invariant-loop-row l =
+    l.out.items ≡ l.fn.out.items ++ flat_map present (take l.row l.numbers)

@@ -1,4 +1,4 @@
-use Rattle.std.proofs.Common.{◌≡◌, ◌++◌, ◌∷◌, ◌∙◌, [], List, ℤ, Option, Bool, Ok, Err, subst, sym, ap}
+use Rattle.std.proofs.Common.{◌≡◌, ◌++◌, ◌∷◌, ◌∙◌, [], List, Bool, Ok, Err, subst, sym, ap}
 use Rattle.druid_segfile.specs.Parts.{each_at}
 use Rattle.druid_segfile.specs.Reading.{Cursor}
 use Rattle.druid_segfile.specs.ColumnReading.{mark_at, present_at, metric_at}
@@ -26,7 +26,7 @@ loop-init c =
       marked = all_marks short rows c.again-marks.result.rest marks mid here;
       marks_short = ap (λ (k : Cursor). k.short) c.again-marks.ensures;
       short = found.1;
-      reading = rw c.in_ok-numbers.ensures.items (nothing_before (present_at short marks mid) ∙ sym (metric_marked short rows c.args.self.now.rest marks mid found.0.1));
+      reading = rw c.in_ok-numbers.ensures (nothing_before (present_at short marks mid) ∙ sym (metric_marked short rows c.args.self.now.rest marks mid found.0.1));
     }
 
 pub unreachable-requires-in-Err-mark : goal.unreachable-requires-in-Err-mark
@@ -42,7 +42,7 @@ unreachable-requires-in-Err-present c =
     let rows = c.args.rows in
     let l = c.loop.invariant in
     let mark = c.in-Ok.mark in
-    let items = c.loop.numbers.items in
+    let items = c.loop.numbers in
     let marked = subst (λ s. mark_at s c.loop.marks.rest ≡ Ok (mark, c.mark.new.self.rest)) l.marks_short c.in-Ok.ensures.0 in
     let next = next_mark short rows c.loop.counter c.loop.marks.rest l.left l.after mark c.mark.new.self.rest c.loop-test.true l.marked marked in
     let failed = subst (λ s. present_value_at s mark c.loop.self.rest ≡ Err c.in-Err-present.field-0) l.short c.in-Err-present.ensures in
@@ -55,14 +55,14 @@ loop-preserved c =
     let rows = c.args.rows in
     let l = c.loop.invariant in
     let mark = c.in-Ok.mark in
-    let items = c.loop.numbers.items in
+    let items = c.loop.numbers in
     let number = c.in-Ok-present.number in
     let after = c.present.new.self in
     let marked = subst (λ s. mark_at s c.loop.marks.rest ≡ Ok (mark, c.mark.new.self.rest)) l.marks_short c.in-Ok.ensures.0 in
     let next = next_mark short rows c.loop.counter c.loop.marks.rest l.left l.after mark c.mark.new.self.rest c.loop-test.true l.marked marked in
     let read = subst (λ s. present_value_at s mark c.loop.self.rest ≡ Ok (number, after.rest)) l.short c.in-Ok-present.ensures.0 in
     let on = sym (next_present short mark next.0 items c.loop.self.rest number after.rest read) ∙ ap (λ (ms : List Bool). with_front items (present_at short ms c.loop.self.rest)) (sym next.1) ∙ l.reading in
-    let pushed : c.push.new.self.items ≡ items ++ number ∷ [] = c.in_ok-push.ensures.items in
+    let pushed : c.push.new.self ≡ items ++ number ∷ [] = c.in_ok-push.ensures.ok in
     record {
       left = next.0;
       after = l.after;
@@ -76,10 +76,10 @@ pub returns : goal.returns
 returns c =
     let short = c.args.self.now.short in
     let l = c.loop.invariant in
-    let items = c.loop.numbers.items in
+    let items = c.loop.numbers in
     let none = marks_done short c.args.rows c.loop.counter c.loop.marks.rest l.left l.after c.loop-test.false l.marked in
     let whole = sym l.reading ∙ ap (λ (ms : List Bool). with_front items (present_at short ms c.loop.self.rest)) none ∙ present_done short items c.loop.self.rest in
     record {
-      is = whole ∙ ap (λ (numbers : List (Option ℤ)). Ok (numbers, c.loop.self.rest)) (sym c.of.ensures);
+      is = whole;
       short = l.short;
     }

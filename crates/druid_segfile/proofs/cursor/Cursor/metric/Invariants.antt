@@ -11,5 +11,5 @@ invariant-loop l = record {
   marked : each_at (mark_at l.fn.self.short) (l.rows - l.counter) l.marks.rest ≡ Ok (left, after);
   marks_short : l.marks.short ≡ l.fn.self.short;
   short : l.self.short ≡ l.fn.self.short;
-  reading : with_front l.numbers.items (present_at l.fn.self.short left l.self.rest) ≡ metric_at l.fn.self.short l.rows l.fn.self.rest;
+  reading : with_front l.numbers (present_at l.fn.self.short left l.self.rest) ≡ metric_at l.fn.self.short l.rows l.fn.self.rest;
 }

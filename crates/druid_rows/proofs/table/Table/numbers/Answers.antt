@@ -1,5 +1,5 @@
 use Rattle.druid_rows.proofs.TableLemmas.{numbers_of_table}
-use Rattle.druid_rows.proofs.table.Table.metric_column.Goals as goal
+use Rattle.druid_rows.proofs.table.Table.numbers.Goals as goal
 
 pub returns : goal.returns
 returns c =
