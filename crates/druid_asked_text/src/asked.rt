@@ -12,7 +12,7 @@ ghost use Rattle.druid_query.specs.AskedOrder.{asked_cmp, same_asked, AreApart};
 ghost use Rattle.druid_query.specs.SubQuery.{pieces_data};
 
 use druid_base::{limited_field, list_field, text_field};
-use druid_query::Asked;
+use druid_query::SegmentSlice;
 use druid_segid::{Name, SegmentId, Version};
 use druid_time::Interval;
 use serde_json::{Value, json};
@@ -134,7 +134,7 @@ impl<'a> AskedRef<'a> {
     }
 
     // A copy, whose source is that name.
-    fn to_owned_in(&self, alloc: Global, source: &Name) -> Result<Asked, AllocError>
+    fn to_owned_in(&self, alloc: Global, source: &Name) -> Result<SegmentSlice, AllocError>
         requires { source.now ≡ self.now.0.source }
         ensures { IfOk result (λ copy. copy ≡ self.now) }
     {
@@ -143,7 +143,7 @@ impl<'a> AskedRef<'a> {
             return Err(AllocError);
         };
         let segment = SegmentId::new(source.clone()?, self.chunk, version, self.partition);
-        Ok((segment, self.piece))
+        Ok(SegmentSlice::new(segment, self.piece))
     }
 }
 
@@ -271,7 +271,11 @@ pub fn are_apart(alloc: Global, source: &str, values: &[Value]) -> Result<bool, 
 ///
 /// Out of memory.
 #[tactic(auto, using(crate::proofs::PieceLemmas::inside_source))]
-pub fn asked_list(alloc: Global, source: &Name, values: &[Value]) -> Result<Vec<Asked>, AllocError>
+pub fn asked_list(
+    alloc: Global,
+    source: &Name,
+    values: &[Value],
+) -> Result<Vec<SegmentSlice>, AllocError>
     requires { IsSome (each_of (inside_at source.now) (items_view values.now)) }
     ensures { IfOk result (λ all. each_of (inside_at source.now) (items_view values.now) ≡ Some all.items) }
 {
@@ -333,12 +337,12 @@ pub fn asked_items(value: &Value) -> Option<&[Value]>
 ///
 /// Out of memory.
 #[tactic(auto, unfolding(druid_query::specs::Asked::asked_data))]
-pub fn asked_value(alloc: Global, asked: &Asked) -> Result<Value, AllocError>
+pub fn asked_value(alloc: Global, asked: &SegmentSlice) -> Result<Value, AllocError>
     ensures { IfOk result (λ v. view v ≡ asked_data asked.now) }
 {
-    let (segment, piece) = asked;
+    let segment = asked.id();
     let chunk = segment.interval().text(alloc)?;
-    let piece = piece.text(alloc)?;
+    let piece = asked.interval().text(alloc)?;
     let version = segment.version().text(alloc)?;
     json!(in alloc; {
         "chunk": chunk.as_str(),
@@ -353,7 +357,7 @@ pub fn asked_value(alloc: Global, asked: &Asked) -> Result<Value, AllocError>
 /// # Errors
 ///
 /// Out of memory.
-pub fn asked_values(alloc: Global, asked: &[Asked]) -> Result<Vec<Value>, AllocError>
+pub fn asked_values(alloc: Global, asked: &[SegmentSlice]) -> Result<Vec<Value>, AllocError>
     ensures { IfOk result (λ vs. items_view vs.items ≡ pieces_data asked.now) }
 {
     let mut all = Vec::with_capacity(alloc, asked.len())?;
@@ -378,7 +382,11 @@ pub fn is_asked(source: &Name, value: &Value) -> bool
 ///
 /// None where the value is no such object. Out of memory only of a piece.
 #[tactic(auto, using(crate::proofs::PieceLemmas::asked_source))]
-pub fn read_asked(alloc: Global, source: &Name, value: &Value) -> Result<Option<Asked>, AllocError>
+pub fn read_asked(
+    alloc: Global,
+    source: &Name,
+    value: &Value,
+) -> Result<Option<SegmentSlice>, AllocError>
     ensures read { IfOk result (λ asked. asked ≡ asked_at source.now (view value.now)) }
     ensures memory { IfErr result (λ _. IsSome (asked_at source.now (view value.now))) }
 {

@@ -14,7 +14,7 @@ use druid_follow::fetch_entry;
 use druid_inventory::Inventory;
 use druid_link::{Link, MemoryLink};
 use druid_published::Publication;
-use druid_query::{Asked, Query};
+use druid_query::{Query, SegmentSlice};
 use druid_query_text::read_query;
 use druid_scatter::{Answer, Pick, Plan, Rotate, gather, plan};
 use druid_shard::NodeNo;
@@ -157,9 +157,9 @@ pub(crate) fn count(rt: &impl Abort, alloc: Global) -> Query {
 }
 
 /// A piece: the identifier of its segment, and its interval.
-pub(crate) fn piece_text(rt: &impl Abort, alloc: Global, asked: &Asked) -> String {
-    let id = asked.0.text(alloc).expect(rt, "memory");
-    let interval = asked.1;
+pub(crate) fn piece_text(rt: &impl Abort, alloc: Global, slice: &SegmentSlice) -> String {
+    let id = slice.id().text(alloc).expect(rt, "memory");
+    let interval = slice.interval();
     format!(in alloc; "{id} {interval}").expect(rt, "memory")
 }
 

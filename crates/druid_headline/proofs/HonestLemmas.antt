@@ -20,7 +20,7 @@ use Rattle.druid_partial.specs.Groups.{Group, IsResult}
 use Rattle.druid_partial.specs.Partials.{kinds_of}
 use Rattle.druid_scan.specs.Once.{segment_named, counted_in, counted_of, counted_groups}
 use Rattle.druid_partial_text.specs.Read.{TellsGroups}
-use Rattle.druid_partial_text.specs.PieceOrder.{same_asked-true}
+use Rattle.druid_query.specs.PieceOrder.{same_asked-true}
 use Rattle.druid_partial.specs.Answer.{Answer}
 use Rattle.druid_partial_text.specs.Answers.{TellsAnswer, WereAsked, answer_data, answer_text}
 use Rattle.druid_partial_text.specs.Missed.{IsOfSegment}

@@ -13,7 +13,7 @@ ghost use Rattle.druid_scan.specs.Told.{told_by};
 use crate::held::Held;
 use druid_partial::{Partial, merge};
 use druid_partial_text::NodeAnswer;
-use druid_query::{Asked, Query, SubQuery};
+use druid_query::{Query, SegmentSlice, SubQuery};
 use druid_scan::{Slice, partial_of_slices};
 use druid_time::Interval;
 use std::alloc::{AllocError, Global};
@@ -26,14 +26,14 @@ const ROWS_OF_THREAD: usize = 2_000;
 type Placed = (usize, Interval);
 
 // The pieces whose segment is held, with its place.
-fn placed_in(alloc: Global, held: &Held, asked: &[Asked]) -> Result<Vec<Placed>, AllocError>
+fn placed_in(alloc: Global, held: &Held, asked: &[SegmentSlice]) -> Result<Vec<Placed>, AllocError>
     ensures reported { IfOk result (λ placed. (query : Query) → flat_map (counted_at query held.now) placed.items ≡ counted_groups query held.now asked.now) }
     ensures within { IfOk result (λ placed. All (IsWithin held.now) placed.items) }
 {
     let mut placed = Vec::new(alloc);
-    for (id, piece) in asked {
-        if let Some(place) = held.place(id) {
-            placed.push((place, *piece))?;
+    for slice in asked {
+        if let Some(place) = held.place(slice.id()) {
+            placed.push((place, slice.interval()))?;
         }
     }
     Ok(placed)
@@ -159,7 +159,7 @@ fn partial_in_parts<R: Threads>(
 }
 
 // The pieces whose segment is held, in order by segment and by time.
-fn sorted_in(alloc: Global, held: &Held, asked: &[Asked]) -> Result<Vec<Placed>, AllocError>
+fn sorted_in(alloc: Global, held: &Held, asked: &[SegmentSlice]) -> Result<Vec<Placed>, AllocError>
     ensures counted { IfOk result (λ placed. (query : Query) (groups : List Group)
         → IsResult (kinds_of query) (flat_map (counted_at query held.now) placed.items) groups
         → IsResult (kinds_of query) (counted_groups query held.now asked.now) groups) }
@@ -170,21 +170,18 @@ fn sorted_in(alloc: Global, held: &Held, asked: &[Asked]) -> Result<Vec<Placed>,
     Ok(placed)
 }
 
-fn copy_of(asked: &Asked) -> Result<Asked, AllocError>
-    ensures { IfOk result (λ copy. copy ≡ asked.now) }
-{
-    let (id, piece) = asked;
-    Ok((id.clone()?, *piece))
-}
-
 // The pieces whose segment is not held.
-fn missing_of(alloc: Global, held: &Held, asked: &[Asked]) -> Result<Vec<Asked>, AllocError>
+fn missing_of(
+    alloc: Global,
+    held: &Held,
+    asked: &[SegmentSlice],
+) -> Result<Vec<SegmentSlice>, AllocError>
     ensures { IfOk result (λ pieces. pieces.items ≡ missing held.now asked.now) }
 {
     let mut pieces = Vec::new(alloc);
     for piece in asked {
-        if !held.holds(&piece.0) {
-            pieces.push(copy_of(piece)?)?;
+        if !held.holds(piece.id()) {
+            pieces.push(piece.clone()?)?;
         }
     }
     Ok(pieces)

@@ -1,15 +1,15 @@
-//! What is answered of pieces of segments, by a node and by whoever gathers of nodes.
+//! What is answered of segment slices, by a node and by whoever gathers of nodes.
 ghost use Rattle.std.specs.Prelude.{◌≡◌};
 
 use crate::Partial;
-use druid_query::Asked;
+use druid_query::SegmentSlice;
 use std::marker::Model;
 
 /// What is answered of segment slices: a partial, and the slices that are missing from it, since nobody gave them.
 #[derive(Debug, Drop)]
 pub struct Answer {
     partial: Partial,
-    missing: Vec<Asked>,
+    missing: Vec<SegmentSlice>,
 }
 
 impl Model for Answer {
@@ -22,7 +22,7 @@ impl Model for Answer {
 
 impl Answer {
     /// The answer of these parts.
-    pub fn new(partial: Partial, missing: Vec<Asked>) -> Answer
+    pub fn new(partial: Partial, missing: Vec<SegmentSlice>) -> Answer
         ensures { result ≡ record { partial = partial; missing = missing.items } }
     {
         Answer { partial, missing }
@@ -36,14 +36,14 @@ impl Answer {
     }
 
     /// The slices that are missing: a node's in the order in which it was asked for them, a broker's in that of its plan.
-    pub fn missing(&self) -> &[Asked]
+    pub fn missing(&self) -> &[SegmentSlice]
         ensures { result.now ≡ self.now.missing }
     {
         &self.missing
     }
 
     /// Its parts.
-    pub fn into_parts(self) -> (Partial, Vec<Asked>)
+    pub fn into_parts(self) -> (Partial, Vec<SegmentSlice>)
         ensures partial { result.0 ≡ self.partial }
         ensures missing { result.1.items ≡ self.missing }
     {

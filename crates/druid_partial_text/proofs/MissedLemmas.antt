@@ -20,7 +20,7 @@ use Rattle.druid_query.specs.SubQuery.{SubQuery}
 use Rattle.druid_partial.specs.Groups.{Group}
 use Rattle.druid_partial_text.specs.Read.{Lists, TellsGroups}
 use Rattle.druid_partial_text.specs.Borrowed.{AreRows}
-use Rattle.druid_partial_text.specs.PieceOrder.{piece_cmp, piece_cmp-total, piece_cmp-ties, same_asked-true}
+use Rattle.druid_query.specs.PieceOrder.{piece_cmp, piece_cmp-total, piece_cmp-ties, same_asked-true}
 use Rattle.druid_partial_text.specs.Answers.{WereAsked, ListsAnswer, TellsAnswer}
 use Rattle.druid_partial_text.specs.Missed.{AreMissed, AreLists, TellBoth}
 use Rattle.druid_partial_text.proofs.MadeLemmas.{Made, more, ends, some_reads}

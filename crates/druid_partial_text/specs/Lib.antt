@@ -4,7 +4,6 @@ pub mod Answers
 pub mod Borrowed
 pub mod Missed
 pub mod Named
-pub mod PieceOrder
 pub mod Read
 pub mod Spelt
 pub mod Tokens

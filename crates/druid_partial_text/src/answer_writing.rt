@@ -12,22 +12,22 @@ ghost use Rattle.druid_partial_text.specs.Written.{IsHeld};
 use crate::NodeAnswer;
 use crate::tokens::text_of;
 use crate::writing::{FIRST_ROOM, push_groups};
-use druid_query::Asked;
+use druid_query::SegmentSlice;
 use json::Writer;
 use std::alloc::{AllocError, Global};
 
 // Writes a piece of a segment.
-fn push_asked(alloc: Global, out: &mut Writer, asked: &Asked) -> Result<(), AllocError>
+fn push_asked(alloc: Global, out: &mut Writer, asked: &SegmentSlice) -> Result<(), AllocError>
     ensures ok { OnOk result (out.new.tokens ≡ out.old.tokens ++ tokens_of (asked_data asked.now)) }
     ensures before { out.new.before ≡ out.old.before }
     ensures held { OnOk result (IsOfSegment asked.now) }
 {
-    let (segment, piece) = asked;
+    let segment = asked.id();
     out.begin_object()?;
     out.key("chunk")?;
     out.string(segment.interval().text(alloc)?.as_str())?;
     out.key("itvl")?;
-    out.string(piece.text(alloc)?.as_str())?;
+    out.string(asked.interval().text(alloc)?.as_str())?;
     out.key("part")?;
     out.u64(segment.partition() as u64)?;
     out.key("ver")?;
@@ -40,7 +40,7 @@ fn push_asked(alloc: Global, out: &mut Writer, asked: &Asked) -> Result<(), Allo
 pub(crate) fn push_pieces(
     alloc: Global,
     out: &mut Writer,
-    asked: &[Asked],
+    asked: &[SegmentSlice],
 ) -> Result<(), AllocError>
     ensures ok { OnOk result (out.new.tokens ≡ out.old.tokens ++ tokens_of (array (pieces_data asked.now))) }
     ensures before { out.new.before ≡ out.old.before }

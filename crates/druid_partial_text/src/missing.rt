@@ -6,12 +6,12 @@ ghost use Rattle.serde_json.specs.View.{view, items_view};
 ghost use Rattle.druid_base.specs.Each.{each_of};
 ghost use Rattle.druid_query.specs.Asked.{Asked, asked_at};
 ghost use Rattle.druid_query.specs.SubQuery.{SubQuery};
-ghost use Rattle.druid_partial_text.specs.PieceOrder.{piece_cmp};
+ghost use Rattle.druid_query.specs.PieceOrder.{piece_cmp};
 ghost use Rattle.druid_partial_text.specs.Missed.{AreMissed};
 
 use crate::piece_ref::PieceRef;
 use druid_asked_text::{is_asked, read_asked};
-use druid_query::{Asked, SubQuery};
+use druid_query::{SegmentSlice, SubQuery};
 use druid_segid::Name;
 use serde_json::Value;
 use std::alloc::{AllocError, Global};
@@ -26,7 +26,11 @@ pub(crate) fn are_pieces(source: &Name, values: &[Value]) -> bool
 
 // The pieces.
 #[tactic(auto, using(crate::proofs::MissedLemmas::piece_reads, crate::proofs::MissedLemmas::pieces_more, crate::proofs::MissedLemmas::pieces_last))]
-fn pieces_in(alloc: Global, source: &Name, values: &[Value]) -> Result<Vec<Asked>, AllocError>
+fn pieces_in(
+    alloc: Global,
+    source: &Name,
+    values: &[Value],
+) -> Result<Vec<SegmentSlice>, AllocError>
     requires { IsSome (each_of (asked_at source.now) (items_view values.now)) }
     ensures { IfOk result (λ all. each_of (asked_at source.now) (items_view values.now) ≡ Some all.items) }
 {
@@ -41,7 +45,10 @@ fn pieces_in(alloc: Global, source: &Name, values: &[Value]) -> Result<Vec<Asked
 }
 
 // These pieces, in order.
-fn in_order<'a>(alloc: Global, asked: &'a [Asked]) -> Result<BTreeSet<PieceRef<'a>>, AllocError>
+fn in_order<'a>(
+    alloc: Global,
+    asked: &'a [SegmentSlice],
+) -> Result<BTreeSet<PieceRef<'a>>, AllocError>
     ensures { IfOk result (λ pieces. (a : Asked) → IsTrue (contains piece_cmp pieces a) ↔ Contains asked.now a) }
 {
     let mut pieces = BTreeSet::new(alloc);
@@ -56,8 +63,8 @@ fn in_order<'a>(alloc: Global, asked: &'a [Asked]) -> Result<BTreeSet<PieceRef<'
 #[tactic(auto, using(crate::proofs::MissedLemmas::among_none))]
 fn were_asked<'a>(
     alloc: Global,
-    asked: &'a [Asked],
-    missing: &'a [Asked],
+    asked: &'a [SegmentSlice],
+    missing: &'a [SegmentSlice],
 ) -> Result<bool, AllocError>
     ensures { IfOk result (λ were. IsTrue were ↔ ((a : Asked) → Contains missing.now a → Contains asked.now a)) }
 {
@@ -79,7 +86,7 @@ pub(crate) fn missing_in(
     alloc: Global,
     sub: &SubQuery,
     values: &[Value],
-) -> Result<Option<Vec<Asked>>, AllocError>
+) -> Result<Option<Vec<SegmentSlice>>, AllocError>
     requires { IsSome (each_of (asked_at sub.now.query.source) (items_view values.now)) }
     ensures some { IfOk result (λ read. IfSome read (λ v. AreMissed sub.now (items_view values.now) v.items)) }
     ensures none { IfOk result (λ read. IfNone read

@@ -1,20 +1,17 @@
-//! Pieces of borrowed segments, in an order.
+//! Borrowed segment slices, in their order: a set of them holds what a contract sees as slices.
 ghost use Rattle.std.specs.Prelude.{◌≡◌, Some, refl};
 ghost use Rattle.druid_query.specs.AskedOrder.{same_asked, same_asked-per, same_asked-equiv};
-ghost use Rattle.druid_partial_text.specs.PieceOrder as order;
-ghost use Rattle.druid_partial_text.specs.PieceOrder.{piece_cmp};
+ghost use Rattle.druid_query.specs.PieceOrder as order;
+ghost use Rattle.druid_query.specs.PieceOrder.{piece_cmp};
 
-use druid_query::Asked;
-use druid_segid::SegmentId;
-use druid_time::Interval;
+use druid_query::SegmentSlice;
 use std::cmp::Ordering;
 use std::marker::Model;
 
-// A piece, with a borrowed segment. Pieces are in the order of their segments, and then of their own starts and ends.
+// A borrowed slice.
 #[derive(Drop)]
 pub(crate) struct PieceRef<'a> {
-    segment: &'a SegmentId,
-    piece: Interval,
+    slice: &'a SegmentSlice,
 }
 
 impl<'a> Model for PieceRef<'a> {
@@ -22,7 +19,7 @@ impl<'a> Model for PieceRef<'a> {
 
     ghost Value = { Asked };
 
-    ghost view = { λ a. (a.segment.now, a.piece) };
+    ghost view = { λ a. a.slice.now };
 }
 
 impl<'a> PartialEq for PieceRef<'a> {
@@ -33,9 +30,7 @@ impl<'a> PartialEq for PieceRef<'a> {
     fn eq(&self, other: &PieceRef<'a>) -> bool
         ensures { result ≡ same_asked self.now other.now }
     {
-        *self.segment == *other.segment
-            && self.piece.start() == other.piece.start()
-            && self.piece.end() == other.piece.end()
+        *self.slice == *other.slice
     }
 }
 
@@ -63,20 +58,14 @@ impl<'a> Ord for PieceRef<'a> {
     ghost matches_eq = { order.piece_cmp-ties };
 
     fn cmp(&self, other: &PieceRef<'a>) -> Ordering {
-        self.segment
-            .cmp(other.segment)
-            .then(self.piece.start().cmp(&other.piece.start()))
-            .then(self.piece.end().cmp(&other.piece.end()))
+        self.slice.cmp(other.slice)
     }
 }
 
 impl<'a> PieceRef<'a> {
-    pub(crate) fn of(asked: &'a Asked) -> PieceRef<'a>
-        ensures { result ≡ asked.now }
+    pub(crate) fn of(slice: &'a SegmentSlice) -> PieceRef<'a>
+        ensures { result ≡ slice.now }
     {
-        PieceRef {
-            segment: &asked.0,
-            piece: asked.1,
-        }
+        PieceRef { slice }
     }
 }

@@ -10,7 +10,7 @@ use crate::results::{Columns, columns_of, push_rows};
 use crate::tokens::text_of;
 use crate::writing::FIRST_ROOM;
 use druid_partial::Partial;
-use druid_query::{Asked, Query, QueryType};
+use druid_query::{Query, QueryType, SegmentSlice};
 use json::Writer;
 use std::alloc::{AllocError, Global};
 
@@ -19,7 +19,7 @@ fn push_shortfall(
     out: &mut Writer,
     kind: QueryType,
     columns: &Columns,
-    missing: &[Asked],
+    missing: &[SegmentSlice],
     partial: &Partial,
 ) -> Result<(), AllocError>
     ensures ok { OnOk result (out.new.tokens ≡ out.old.tokens
@@ -46,7 +46,7 @@ fn push_shortfall(
 pub fn shortfall_text(
     alloc: Global,
     query: &Query,
-    missing: &[Asked],
+    missing: &[SegmentSlice],
     partial: &Partial,
 ) -> Result<String, AllocError>
     requires { IsPartialFor query.now partial.now }

@@ -8,5 +8,6 @@ pub mod Asked
 pub mod Read
 pub mod Written
 pub mod AskedOrder
+pub mod PieceOrder
 pub mod SubQuery
 pub mod Refused

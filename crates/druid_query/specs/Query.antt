@@ -1,5 +1,5 @@
 -- What a query asks, and its limits. A text is its bytes.
-use Rattle.std.specs.Prelude.{ℕ, suc, ◌+◌, max, Bool, true, ◌&&◌, nat_le, List, [], ◌∷◌, ◌++◌, length, map, Option, Some, None}
+use Rattle.std.specs.Prelude.{ℕ, suc, ◌+◌, max, Bool, true, ◌&&◌, nat_le, List, ◌++◌, length, map, Option, Some, None}
 use Rattle.std.specs.List.{list_all}
 use Rattle.druid_time.specs.Extent.{Extent}
 use Rattle.druid_time.specs.declared.granularity.Granularity.{Granularity}

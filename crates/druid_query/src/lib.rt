@@ -8,6 +8,7 @@ mod limits;
 mod names;
 mod query;
 mod query_type;
+mod segment_slice;
 mod subquery;
 
 pub use aggregator::{Aggregator, AggregatorKind};
@@ -20,4 +21,5 @@ pub use limits::{
 pub use names::{is_label, is_short};
 pub use query::Query;
 pub use query_type::QueryType;
-pub use subquery::{Asked, SubQuery};
+pub use segment_slice::SegmentSlice;
+pub use subquery::SubQuery;

@@ -1,19 +1,14 @@
-//! Queries to a node, each with the pieces of segments that it is to be answered from.
+//! Queries to a node, each with the segment slices that it is to be answered from.
 ghost use Rattle.std.specs.Prelude.{◌≡◌};
 
-use crate::Query;
-use druid_segid::SegmentId;
-use druid_time::Interval;
+use crate::{Query, SegmentSlice};
 use std::marker::Model;
 
-/// A segment, and the piece of it that is asked for.
-pub type Asked = (SegmentId, Interval);
-
-/// A query to a node, and the pieces of segments that it is to be answered from.
+/// A query to a node, and the segment slices that it is to be answered from.
 #[derive(Debug, Drop)]
 pub struct SubQuery {
     query: Query,
-    asked: Vec<Asked>,
+    asked: Vec<SegmentSlice>,
 }
 
 impl Model for SubQuery {
@@ -29,9 +24,9 @@ impl Model for SubQuery {
 }
 
 impl SubQuery {
-    /// That query, to be answered from those pieces. Its text is read back where a piece is asked for, each is of a segment of
+    /// That query, to be answered from those slices. Its text is read back where a slice is asked for, each is of a segment of
     /// the query's data source and lies inside it, and no two of one segment overlap.
-    pub fn new(query: Query, asked: Vec<Asked>) -> SubQuery
+    pub fn new(query: Query, asked: Vec<SegmentSlice>) -> SubQuery
         ensures { result ≡ record { query = query; asked = asked.items } }
     {
         SubQuery { query, asked }
@@ -44,8 +39,8 @@ impl SubQuery {
         &self.query
     }
 
-    /// The pieces, in the order in which they are asked for.
-    pub fn asked(&self) -> &[Asked]
+    /// The slices, in the order in which they are asked for.
+    pub fn asked(&self) -> &[SegmentSlice]
         ensures { result.now ≡ self.now.asked }
     {
         &self.asked

@@ -7,14 +7,13 @@ use std::process::Abort;
 // Whether each piece is written and read again.
 fn are_pieces_back(rt: &impl Abort, alloc: Global) -> bool {
     let subquery = subquery(rt, alloc);
-    for (segment, piece) in subquery.asked() {
-        let asked = (segment.clone().expect(rt, "memory"), *piece);
-        let value = asked_value(alloc, &asked).expect(rt, "memory");
+    for slice in subquery.asked() {
+        let value = asked_value(alloc, slice).expect(rt, "memory");
         let read = read_asked(alloc, subquery.query().source(), &value).expect(rt, "a piece");
-        let Some((other, interval)) = read else {
+        let Some(other) = read else {
             return false;
         };
-        if other != asked.0 || interval != asked.1 {
+        if other != *slice {
             return false;
         }
     }

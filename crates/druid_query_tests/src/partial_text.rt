@@ -2,7 +2,7 @@
 use crate::printing::{assert_prints, printed};
 use druid_asked_text::read_asked;
 use druid_partial_text::{PartialFault, partial_text, read_partial, result_text, shortfall_text};
-use druid_query::{Asked, Query};
+use druid_query::{Query, SegmentSlice};
 use druid_query_text::read_query;
 use druid_segid::Name;
 use serde_json::Value;
@@ -79,7 +79,7 @@ fn reported(rt: &impl Abort, alloc: Global, query: &Query, text: &str) -> String
 const MISSED: &str =
     "{\"chunk\":\"2024-01-01T00:00:00.000Z/2024-01-02T00:00:00.000Z\",\"itvl\":\"2024-01-01T01:00:00.000Z/2024-01-01T02:00:00.000Z\",\"part\":0,\"ver\":\"v\"}";
 
-fn missed(rt: &impl Abort, alloc: Global) -> Asked {
+fn missed(rt: &impl Abort, alloc: Global) -> SegmentSlice {
     let source = Name::new(alloc, "w").expect(rt, "a name");
     let read = read_asked(alloc, &source, &value(rt, alloc, MISSED)).expect(rt, "memory");
     read.expect(rt, "a piece")

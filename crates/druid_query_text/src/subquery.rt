@@ -15,7 +15,7 @@ use crate::parts::{Head, QueryRef, Tail};
 use crate::query::members_of;
 use druid_asked_text::{are_apart, are_inside, asked_items, asked_list, asked_values};
 use druid_base::{JsonFault, parse_json};
-use druid_query::{Asked, QueryFault, SubQuery};
+use druid_query::{QueryFault, SegmentSlice, SubQuery};
 use serde_json::{Value, json, put};
 use std::alloc::{AllocError, Global};
 use std::marker::Model;
@@ -161,7 +161,7 @@ pub fn read_subquery(alloc: Global, bytes: &[u8]) -> Result<SubQuery, QueryFault
 }
 
 #[tactic(auto, unfolding(druid_query::specs::SubQuery::segments_data))]
-fn segments_value(alloc: Global, asked: &[Asked]) -> Result<Value, AllocError>
+fn segments_value(alloc: Global, asked: &[SegmentSlice]) -> Result<Value, AllocError>
     ensures { IfOk result (λ v. view v ≡ segments_data asked.now) }
 {
     let segments = asked_values(alloc, asked)?;

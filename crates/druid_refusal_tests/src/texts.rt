@@ -212,6 +212,15 @@ fn pieces(rt: &impl Abort, alloc: Global, sub: &SubQuery) {
     let Some(asked) = sub.asked().first() else {
         return;
     };
+    let copy = copy_of(rt, alloc, asked);
+    assert_call(
+        rt,
+        "SegmentSlice::clone",
+        match &copy {
+            Ok(copy) => *copy == *asked,
+            Err(_) => true,
+        },
+    );
     begin(rt, alloc);
     let value = end(rt, alloc, asked_value(alloc, asked));
     assert_call(rt, "asked_value", prints(rt, alloc, &value, ASKED_TEXT));

@@ -38,7 +38,7 @@ use Rattle.druid_partial.specs.Partials.{kinds_of}
 use Rattle.druid_scan.specs.Rows.{is_asked, passes_if, tells}
 use Rattle.druid_scan.specs.Once.{counted_groups, counted_of, counted_once, is_counted}
 use Rattle.druid_partial_text.specs.Answers.{missing_at}
-use Rattle.druid_partial_text.specs.PieceOrder.{same_asked-true}
+use Rattle.druid_query.specs.PieceOrder.{same_asked-true}
 use Rattle.serde_json.specs.Read.{read}
 use Rattle.druid_wire.specs.Messages.{IsResponse}
 use Rattle.druid_wire.proofs.OnceLemmas.{one_response}

@@ -137,9 +137,11 @@ part_of source held reported parts a = (
 
 -- ---- replicas
 
-pub served_new : (serving : Serving) (p : Pair) (a : Asked) (nodes : List ℕ) → p ≡ record { asked = a; nodes = nodes } → IsStrictlyIncreasing nodes
-    → ((n : ℕ) → Contains nodes n ↔ ServesRows serving n a.0) → IsServedBy serving p
-served_new serving p a nodes e up all = subst (IsServedBy serving) (sym e) (record { rising = up; all = all })
+pub served_new : (serving : Serving) (p : Pair) (a : Asked) (id : Identifier) (nodes : List ℕ) → p ≡ record { asked = a; nodes = nodes } → a.0 ≡ id → IsStrictlyIncreasing nodes
+    → ((n : ℕ) → Contains nodes n ↔ ServesRows serving n id) → IsServedBy serving p
+served_new serving p a id nodes e of up all =
+    let each = subst (λ (x : Identifier). (n : ℕ) → Contains nodes n ↔ ServesRows serving n x) (sym of) all in
+    subst (IsServedBy serving) (sym e) (record { rising = up; all = each })
 
 pub same_id : (d : Described) (id : Identifier) → d.id.source ≡ id.source → group_of d.id ≡ group_of id → d.id.partition ≡ id.partition → d.id ≡ id
 same_id d id s g p i = record { source = s i; interval = (g i).interval; version = (g i).version; partition = p i }

@@ -3,14 +3,14 @@ ghost use Rattle.std.specs.Prelude.{◌≡◌};
 ghost use Rattle.std.specs.List.Sorted.{IsStrictlyIncreasing, IsStrictlySortedBy};
 ghost use Rattle.druid_scatter.specs.Plan.{asked_of, place_cmp};
 
-use druid_query::Asked;
+use druid_query::SegmentSlice;
 use druid_shard::NodeNo;
 use std::marker::Model;
 
 /// A piece of a segment that is asked for, and the nodes that serve the segment, rising.
 #[derive(Debug, Drop)]
 pub struct Pair {
-    asked: Asked,
+    asked: SegmentSlice,
     nodes: Vec<NodeNo>,
 }
 
@@ -27,7 +27,7 @@ impl Model for Pair {
 
 impl Pair {
     // The pair of a piece and the nodes that serve its segment.
-    pub(crate) fn new(asked: Asked, nodes: Vec<NodeNo>) -> Pair
+    pub(crate) fn new(asked: SegmentSlice, nodes: Vec<NodeNo>) -> Pair
         requires { IsStrictlyIncreasing nodes.items }
         ensures { result ≡ record { asked = asked; nodes = nodes.items } }
     {
@@ -35,7 +35,7 @@ impl Pair {
     }
 
     /// The piece.
-    pub fn asked(&self) -> &Asked
+    pub fn asked(&self) -> &SegmentSlice
         ensures { result.now ≡ self.now.asked }
     {
         &self.asked

@@ -7,7 +7,7 @@ ghost use Rattle.druid_scatter.specs.Planned.{asked_for, asked_in, has_nodes, Is
 
 use crate::{GatherFault, Pair, Plan};
 use druid_inventory::Inventory;
-use druid_query::Query;
+use druid_query::{Query, SegmentSlice};
 use druid_segid::{Name, SegmentId};
 use druid_time::IntervalSet;
 use druid_timeline::{Piece, Timeline};
@@ -32,7 +32,8 @@ fn pair_of(
         partition,
     );
     let nodes = timeline.served(&segment)?;
-    Ok(Pair::new((segment, piece.interval()), nodes))
+    let slice = SegmentSlice::new(segment, piece.interval());
+    Ok(Pair::new(slice, nodes))
 }
 
 // Adds the pairs of a piece, one for each partition of its chunk.

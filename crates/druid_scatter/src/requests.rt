@@ -7,7 +7,7 @@ ghost use Rattle.druid_scatter.specs.Waiting.{pushed, pushed_at, sub_if, sub_req
 
 use crate::waiting::Waiting;
 use druid_message::Request;
-use druid_query::{Asked, Query, SubQuery};
+use druid_query::{Query, SegmentSlice, SubQuery};
 use druid_query_text::subquery_text;
 use druid_wire::request_bytes;
 use http::Method;
@@ -62,7 +62,7 @@ impl Ask {
 }
 
 // Places for what so many nodes are asked for, which is nothing yet.
-fn no_slices(alloc: Global, count: usize) -> Result<Vec<Vec<Asked>>, AllocError>
+fn no_slices(alloc: Global, count: usize) -> Result<Vec<Vec<SegmentSlice>>, AllocError>
     ensures { IfOk result (λ slices. map (λ v. v.items) slices.items ≡ map (λ node. []) (range_with_len 0 count)) }
 {
     let mut slices = Vec::with_capacity(alloc, count)?;
@@ -73,20 +73,27 @@ fn no_slices(alloc: Global, count: usize) -> Result<Vec<Vec<Asked>>, AllocError>
 }
 
 // Adds a piece to those that a node is asked for; a node without a place is not asked.
-fn push_at(slices: &mut [Vec<Asked>], node: usize, asked: &Asked) -> Result<(), AllocError>
+fn push_at(
+    slices: &mut [Vec<SegmentSlice>],
+    node: usize,
+    asked: &SegmentSlice,
+) -> Result<(), AllocError>
     ensures pushed { OnOk result (map (λ v. v.items) slices.new ≡ pushed (map (λ v. v.items) slices.old) node asked.now) }
     ensures count { length slices.new ≡ length slices.old }
 {
     if node >= slices.len() {
         return Ok(());
     }
-    let (segment, interval) = asked;
-    slices[node].push((segment.clone()?, *interval))?;
+    slices[node].push(asked.clone()?)?;
     Ok(())
 }
 
 // Adds a piece to those that the node is asked for whose turn it is.
-fn push_turn(slices: &mut [Vec<Asked>], piece: &Waiting, round: usize) -> Result<(), AllocError>
+fn push_turn(
+    slices: &mut [Vec<SegmentSlice>],
+    piece: &Waiting,
+    round: usize,
+) -> Result<(), AllocError>
     ensures pushed { OnOk result (map (λ v. v.items) slices.new ≡ pushed_at (map (λ v. v.items) slices.old) (slice_get piece.now.order round) piece.now.asked) }
     ensures count { length slices.new ≡ length slices.old }
 {
@@ -102,7 +109,7 @@ fn slices_for(
     waiting: &[Waiting],
     round: usize,
     count: usize,
-) -> Result<Vec<Vec<Asked>>, AllocError>
+) -> Result<Vec<Vec<SegmentSlice>>, AllocError>
     ensures { IfOk result (λ slices. map (λ v. v.items) slices.items ≡ map (wanted_of round waiting.now) (range_with_len 0 count)) }
 {
     let mut slices = no_slices(alloc, count)?;
@@ -122,7 +129,7 @@ fn request_for(alloc: Global, sub: &SubQuery) -> Result<Vec<u8>, AllocError>
 }
 
 // The subquery for pieces, if there are any.
-fn ask_if(alloc: Global, query: &Query, asked: Vec<Asked>) -> Result<Option<Ask>, AllocError>
+fn ask_if(alloc: Global, query: &Query, asked: Vec<SegmentSlice>) -> Result<Option<Ask>, AllocError>
     ensures { IfOk result (λ ask. ask ≡ sub_if query.now asked.items) }
 {
     if asked.is_empty() {
@@ -137,7 +144,7 @@ fn ask_if(alloc: Global, query: &Query, asked: Vec<Asked>) -> Result<Option<Ask>
 fn asks_of(
     alloc: Global,
     query: &Query,
-    slices: Vec<Vec<Asked>>,
+    slices: Vec<Vec<SegmentSlice>>,
 ) -> Result<Vec<Option<Ask>>, AllocError>
     ensures { IfOk result (λ asks. asks.items ≡ map (λ asked. sub_if query.now asked.items) slices.items) }
 {

@@ -5,7 +5,7 @@ ghost use Rattle.std.specs.BTreeSet.{contains};
 ghost use Rattle.druid_scatter.specs.Waiting.{Waiting, StandsOnce, AreOrdered, TellsPlaces, stays, at_cmp, place_of, pieces_of};
 
 use crate::{Pair, Pick, Plan};
-use druid_query::Asked;
+use druid_query::SegmentSlice;
 use druid_shard::NodeNo;
 use druid_time::Instant;
 use std::alloc::{AllocError, Global};
@@ -18,11 +18,10 @@ type Place = (Instant, u16);
 // The places of pieces.
 pub(crate) type Places = BTreeSet<Place>;
 
-fn place_of(asked: &Asked) -> Place
+fn place_of(asked: &SegmentSlice) -> Place
     ensures { result ≡ place_of asked.now }
 {
-    let (segment, piece) = asked;
-    (piece.start(), segment.partition())
+    (asked.interval().start(), asked.id().partition())
 }
 
 // The nodes, as they are picked.
@@ -43,7 +42,7 @@ fn order_of<P: Pick>(
 // A piece, and the order in which its replicas are asked.
 #[derive(Debug, Drop)]
 pub(crate) struct Waiting {
-    asked: Asked,
+    asked: SegmentSlice,
     order: Vec<NodeNo>,
 }
 
@@ -65,15 +64,14 @@ impl Waiting {
         ensures once { IfOk result (λ w. StandsOnce w.order) }
     {
         let order = order_of(alloc, pair.nodes(), turn, pick)?;
-        let (segment, piece) = pair.asked();
         Ok(Waiting {
-            asked: (segment.clone()?, *piece),
+            asked: pair.asked().clone()?,
             order,
         })
     }
 
     // The piece.
-    pub(crate) fn asked(&self) -> &Asked
+    pub(crate) fn asked(&self) -> &SegmentSlice
         ensures { result.now ≡ self.now.asked }
     {
         &self.asked
@@ -97,7 +95,7 @@ impl Waiting {
     }
 
     // The piece itself.
-    fn into_asked(self) -> Asked
+    fn into_asked(self) -> SegmentSlice
         ensures { result ≡ self.asked }
     {
         self.asked
@@ -136,7 +134,7 @@ pub(crate) fn most_nodes(waiting: &[Waiting]) -> usize
 }
 
 // Where each of these pieces stands in a plan.
-pub(crate) fn places_of(alloc: Global, asked: &[Asked]) -> Result<Places, AllocError>
+pub(crate) fn places_of(alloc: Global, asked: &[SegmentSlice]) -> Result<Places, AllocError>
     ensures { IfOk result (λ places. TellsPlaces (contains at_cmp places) asked.now) }
 {
     let mut places = BTreeSet::new(alloc);
@@ -166,7 +164,10 @@ pub(crate) fn keep_missed(waiting: &mut Vec<Waiting>, round: usize, missed: &[Op
     waiting.retain(|piece| stays(piece, round, missed));
 }
 
-pub(crate) fn into_pieces(alloc: Global, waiting: Vec<Waiting>) -> Result<Vec<Asked>, AllocError>
+pub(crate) fn into_pieces(
+    alloc: Global,
+    waiting: Vec<Waiting>,
+) -> Result<Vec<SegmentSlice>, AllocError>
     ensures { IfOk result (λ pieces. pieces.items ≡ pieces_of waiting.items) }
 {
     let mut pieces = Vec::with_capacity(alloc, waiting.len())?;

@@ -3,8 +3,8 @@ use Rattle.druid_node.specs.Placed.{IsWithin}
 use Rattle.druid_node.proofs.AnswerLemmas.{PlacedSoFar}
 use Rattle.druid_node.proofs.answering.placed_in.Given as goal
 
-abbrev pub invariant-loop-id : goal.invariant-loop-id
-invariant-loop-id l = record {
-  reported : PlacedSoFar l.held l.placed.items l.asked l.id-index;
+abbrev pub invariant-loop-slice : goal.invariant-loop-slice
+invariant-loop-slice l = record {
+  reported : PlacedSoFar l.held l.placed.items l.asked l.slice-index;
   within : All (IsWithin l.held) l.placed.items;
 }

@@ -1,6 +1,6 @@
 use Rattle.std.proofs.Common.{arith}
 use Rattle.std.specs.BTreeSet.{contains}
-use Rattle.druid_partial_text.specs.PieceOrder.{piece_cmp}
+use Rattle.druid_query.specs.PieceOrder.{piece_cmp}
 use Rattle.druid_partial_text.proofs.MissedLemmas.{piece_more}
 use Rattle.druid_partial_text.proofs.missing.in_order.Goals as goal
 

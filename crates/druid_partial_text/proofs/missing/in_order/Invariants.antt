@@ -1,7 +1,7 @@
 use Rattle.std.proofs.Common.{◌↔◌, IsTrue, Contains, take}
 use Rattle.std.specs.BTreeSet.{contains}
 use Rattle.druid_query.specs.Asked.{Asked}
-use Rattle.druid_partial_text.specs.PieceOrder.{piece_cmp}
+use Rattle.druid_query.specs.PieceOrder.{piece_cmp}
 use Rattle.druid_partial_text.proofs.missing.in_order.Given as goal
 
 abbrev pub invariant-loop-piece : goal.invariant-loop-piece

@@ -1,6 +1,6 @@
 use Rattle.std.proofs.Common.{IsTrue, Contains, rules, arith, refl}
 use Rattle.std.specs.BTreeSet.{contains}
-use Rattle.druid_partial_text.specs.PieceOrder.{piece_cmp}
+use Rattle.druid_query.specs.PieceOrder.{piece_cmp}
 use Rattle.druid_partial_text.proofs.MissedLemmas.{among_more, among_all}
 use Rattle.druid_partial_text.proofs.missing.were_asked.Goals as goal
 

@@ -1,4 +1,4 @@
--- The order in which pieces are looked up: only proofs use this.
+-- The order of segment slices: by it a set of them is searched.
 use Rattle.std.proofs.Common.{◌≡◌, true, Some, refl}
 use Rattle.std.specs.Ordering.{nat_cmp, ordering_then, is_eq}
 use Rattle.std.specs.declared.cmp.Ordering.{Ordering}
