@@ -7,6 +7,7 @@ pub mod OnceLemmas
 pub mod CellLemmas
 pub mod RadixLemmas
 pub mod IntoLemmas
+pub mod FlatLemmas
 pub mod RankLemmas
 pub mod CodeLemmas
 pub mod SourceLemmas

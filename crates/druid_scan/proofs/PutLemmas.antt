@@ -1,10 +1,9 @@
 -- A row joined to the group of its cell is its group merged.
 use Rattle.std.proofs.Common.{◌≡◌, ◌∙◌, ℕ, zero, suc, ◌+◌, ◌<◌, ℤ, List, [], ◌∷◌, ◌++◌, length, map, set, replicate, Option, Some, None, refl, sym, ap, subst, arith, ⊎_elim, ◌≤◌, true, false}
-use Rattle.std.proofs.lemmas.List.{append-nil, take-append-le}
-use Rattle.std.proofs.Math.Seq.{take-length}
-use Rattle.std.proofs.lemmas.List.Elements.{All-nil, All-cons, All-tail, All-contains, Contains-append_right}
-use Rattle.std.proofs.Common.{append_assoc, take, drop}
-use Rattle.std.specs.Prelude.{All, Contains, slice_get, slice_index_or}
+use Rattle.std.proofs.lemmas.List.{append-nil, length-map}
+use Rattle.std.proofs.lemmas.List.Elements.{All-nil, All-cons, All-head, All-tail, All-contains, Contains-append_right}
+use Rattle.std.proofs.Common.{append_assoc}
+use Rattle.std.specs.Prelude.{All, Contains, Bool, slice_get, slice_index_or, option_map}
 use Rattle.std.specs.Ordering.{nat_cmp, ordering_then, ordering_reverse, match_ordering}
 use Rattle.std.specs.declared.cmp.Ordering.TheVariants.{Less, Equal, Greater}
 use Rattle.std.specs.Cmp.Lexicographic.{slice_cmp}
@@ -21,8 +20,10 @@ use Rattle.druid_partial.specs.Joined.{join_numbers, join_groups, put, merged}
 use Rattle.druid_partial.specs.Partials.{kinds_of, HasNumbers}
 use Rattle.druid_scan.specs.Rows.{is_asked}
 use Rattle.druid_scan.specs.Places.{at_place, places_of}
-use Rattle.druid_scan.specs.Cells.{Cell, AreColumns, join_into, with_row}
-use Rattle.druid_scan.specs.Scans.{Scan, counted_at, bucket_at, cell_at, group_at, groups_in, IsCell, AreCells, AreUpto, ComeBefore, IsJoined, IsKept}
+use Rattle.druid_scan.specs.Cells.{Cell, Cells, Filled, AreColumns, join_into, with_row, joined_with, is_there, cell_of, cells_in}
+use Rattle.druid_query.specs.Query.{Query}
+use Rattle.druid_scan.specs.Scans.{Scan, counted_at, bucket_at, cell_at, group_at, groups_in, IsCell, AreCells, AreUpto, ComeBefore, IsJoined, IsKept, HasRoom}
+use Rattle.druid_scan.proofs.FlatLemmas.{filled_joined, filled_put, cells_filled}
 use Rattle.druid_partial.specs.Orders.{key_cmp-total}
 use Rattle.druid_partial.proofs.GroupLemmas.{key_same}
 use Rattle.druid_partial.proofs.MergedLemmas.{joined_length}
@@ -130,6 +131,24 @@ cells_joined scan row cell kinds numbers old new columns h words k ns at inside 
       cells = λ bucket b are. cells_kept scan bucket row old h there b has are;
     })
 
+-- the same where the array is one of numbers
+pub row_joined : (scan : Scan) (row cell : ℕ) (kinds : List AggregatorKind) (numbers : List (Option ℤ)) (old new : List (Option (Filled ℕ))) (there : Bool) → HasColumns scan → row < length scan.segment.rows → AreWords (counted_at scan row).numbers → kinds ≡ kinds_of scan.query → numbers ≡ (counted_at scan row).numbers → cell ≡ cell_at scan row → cell < length old → there ≡ is_there (slice_index_or old cell None) → there ≡ true → new ≡ set old cell (joined_with kinds numbers (slice_index_or old cell None)) → IsJoined scan row (cells_in old) (cells_in new)
+row_joined scan row cell kinds numbers old new there columns h words k ns at inside t y is =
+    let long = length-map old (option_map cell_of) in
+    cells_joined scan row cell kinds numbers (cells_in old) (cells_in new) columns h words k ns at (omega (arith, inside, long))
+    (cells_filled old new cell row kinds numbers inside (filled_joined old new cell kinds row numbers there t y is))
+
+pub row_put : (scan : Scan) (row cell : ℕ) (kinds : List AggregatorKind) (numbers own : List (Option ℤ)) (old mid new : List (Option (Filled ℕ))) (there : Bool) → HasColumns scan → row < length scan.segment.rows → AreWords (counted_at scan row).numbers → kinds ≡ kinds_of scan.query → numbers ≡ (counted_at scan row).numbers → own ≡ (counted_at scan row).numbers → cell ≡ cell_at scan row → cell < length old → there ≡ is_there (slice_index_or old cell None) → there ≡ false → mid ≡ set old cell (joined_with kinds numbers (slice_index_or old cell None)) → new ≡ set mid cell (Some (row, own)) → IsJoined scan row (cells_in old) (cells_in new)
+row_put scan row cell kinds numbers own old mid new there columns h words k ns os at inside t y is n =
+    let long = length-map old (option_map cell_of) in
+    cells_joined scan row cell kinds numbers (cells_in old) (cells_in new) columns h words k ns at (omega (arith, inside, long))
+    (cells_filled old new cell row kinds numbers inside
+    (filled_put old mid new cell kinds row numbers there t y is (n ∙ ap (λ xs. set mid cell (Some (row, xs))) (os ∙ sym ns))))
+
+-- room stays
+pub room_stays : {K : Type 0} (query : Query) (room i : ℕ) (o : Option (Filled K)) (old new : Cells K) → HasRoom query room old → new.width ≡ old.width → new.groups ≡ set old.groups i o → HasRoom query room new
+room_stays query room i o old new has w g = record { width = w ∙ has.width; long = ap length g ∙ length-set old.groups i o ∙ has.long }
+
 -- ---- no groups
 
 pub none_in : (scan : Scan) (n : ℕ) → groups_in scan (replicate n None) ≡ []
@@ -173,10 +192,6 @@ upto_none scan interval row groups none e upto =
 
 -- ---- groups handed out
 
--- what is written through a slice
-pub written_all : {X : Type 0} (n : ℕ) (new old : List X) → n ≡ length new → take n (new ++ drop (length new) old) ≡ new
-written_all n new old e = rw e (take-append-le (length new) new _ (omega arith) ∙ take-length new)
-
 pub group_pushed : (scan : Scan) (before pushed whole : List Group) (group : Group) (c : Cell) (o : Option Cell) (left rest : List (Option Cell)) → left ≡ o ∷ rest → o ≡ Some c → group ≡ group_at scan c → pushed ≡ before ++ group ∷ [] → before ++ groups_in scan left ≡ whole → pushed ++ groups_in scan rest ≡ whole
 group_pushed scan before pushed whole group c o left rest l s g p e =
     ap (λ gs. gs ++ groups_in scan rest) p ∙ append_assoc before (group ∷ []) (groups_in scan rest)
@@ -200,6 +215,12 @@ kept_rest scan o left rest l k = let P : List (Option Cell) → Type 0 = All (Is
 
 pub group_same : (scan : Scan) (c : Cell) (row : ℕ) (numbers : List (Option ℤ)) (g : Group) → row ≡ c.row → numbers ≡ c.numbers → g ≡ record { key = (counted_at scan row).key; numbers = numbers } → g ≡ group_at scan c
 group_same scan c row numbers g r n e = e ∙ (λ i. record { key = (counted_at scan (r i)).key; numbers = n i })
+
+pub kept_here : (scan : Scan) (c : Cell) (o : Option Cell) (left rest : List (Option Cell)) → left ≡ o ∷ rest → o ≡ Some c → All (IsKept scan) left → IsKept scan (Some c)
+kept_here scan c o left rest l e k =
+    let P : List (Option Cell) → Type 0 = All (IsKept scan) in
+    let Q : Option Cell → Type 0 = IsKept scan in
+    subst Q e (All-head (IsKept scan) o rest (subst P l k))
 
 -- the numbers of groups that were added are of 64 bits
 pub words_after : (scan : Scan) (interval : Extent) (to : ℕ) (groups more : List Group) → AreUpto scan interval to (groups ++ more) → All (λ (g : Group). AreWords g.numbers) more

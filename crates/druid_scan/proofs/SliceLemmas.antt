@@ -1,11 +1,11 @@
 -- Rows of several segments in one array of groups.
 use Rattle.std.proofs.Common.{◌≡◌, ◌∙◌, ℕ, zero, suc, ◌+◌, ◌*◌, ◌<◌, ℤ, List, [], ◌∷◌, ◌++◌, length, map, set, replicate, take, get_or, true, false, Option, Some, None, refl, sym, ap, subst, arith, ⊎_elim, append_assoc}
-use Rattle.std.specs.Prelude.{All, slice_get, slice_index_or, unwrap_or}
+use Rattle.std.specs.Prelude.{All, slice_get, slice_index_or, option_map, unwrap_or}
 use Rattle.std.specs.Ordering.{nat_cmp, ordering_then, match_ordering}
 use Rattle.std.specs.declared.cmp.Ordering.TheVariants.{Less, Equal, Greater}
 use Rattle.std.specs.Cmp.Lexicographic.{slice_cmp}
 use Rattle.std.specs.List.{flat_map}
-use Rattle.std.proofs.lemmas.List.{append-nil, take_more, get_or_default, set-get_or}
+use Rattle.std.proofs.lemmas.List.{append-nil, take_more, get_or-map, length-map, map-set}
 use Rattle.std.proofs.lemmas.List.Concat.{flat_map-append}
 use Rattle.druid_time.specs.Extent.{Extent}
 use Rattle.druid_scan.specs.Rows.{is_asked, counted_by}
@@ -19,13 +19,13 @@ use Rattle.druid_rows.specs.Segment.{Segment, row_at}
 use Rattle.druid_rows.specs.Columns.{value_at}
 use Rattle.druid_query.specs.Query.{Query}
 use Rattle.druid_query.specs.declared.aggregator.AggregatorKind.{AggregatorKind}
-use Rattle.druid_partial.specs.Groups.{Group, AreWords, IsResult, value_cmp, key_cmp}
+use Rattle.druid_partial.specs.Groups.{Group, Key, AreWords, IsResult, value_cmp, key_cmp}
 use Rattle.druid_partial.specs.Joined.{join_numbers, join_groups, put, merged}
 use Rattle.druid_partial.specs.Partials.{Partial, earliest, kinds_of, HasNumbers, IsPartial, IsPartialFor, IsGroupFor}
 use Rattle.druid_scan.specs.Places.{at_place, places_of}
-use Rattle.druid_scan.specs.Cells.{Column, code_at, cell_from, room_from, IsColumn, AreColumns, join_into}
-use Rattle.druid_scan.specs.Scans.{Scan, counted_at, cell_at, counted_upto, AreCounted}
-use Rattle.druid_scan.specs.Slices.{Texts, IsRising, IsCoded, AreCoded, room_over, IsOver, Fits, values_of, number_of, IsHeld, AreHeld, present, with_group, Adds}
+use Rattle.druid_scan.specs.Cells.{Column, code_at, cell_from, room_from, IsColumn, AreColumns, Filled, Cells, join_into, filled_with}
+use Rattle.druid_scan.specs.Scans.{Scan, counted_at, cell_at, counted_upto, AreCounted, HasRoom}
+use Rattle.druid_scan.specs.Slices.{Texts, IsRising, IsCoded, AreCoded, room_over, IsOver, Fits, values_of, number_of, IsHeld, AreHeld, present, with_group, group_of, groups_held, Adds}
 use Rattle.druid_partial.proofs.GroupLemmas.{key_same}
 use Rattle.druid_partial.proofs.MergedLemmas.{joined_length}
 use Rattle.druid_partial.proofs.JoinLemmas.{joined_words}
@@ -276,25 +276,32 @@ added_all query texts more n old new e adds =
 
 -- ---- a row in its cell, as it is put there
 
-pub joined_adds : (texts : Texts) (scan : Scan) (row cell : ℕ) (kinds : List AggregatorKind) (numbers : List (Option ℤ)) (old : List (Option Group)) (found : Option Group) (d new : Group) → IsOver texts scan → row < length scan.segment.rows → AreWords (counted_at scan row).numbers → cell ≡ cell_at scan row → cell < length old → found ≡ get_or old cell found → found ≡ Some d → kinds ≡ kinds_of scan.query → numbers ≡ (counted_at scan row).numbers → new ≡ record { key = d.key; numbers = join_into kinds numbers d.numbers } → Adds scan.query texts (counted_at scan row ∷ []) old (set old cell (Some new))
-joined_adds texts scan row cell kinds numbers old found d new over h words at inside is there k ns e =
-    let own = kinds_of scan.query in
-    let g = counted_at scan row in
-    let one : new ≡ with_group own g (Some d) = e ∙ (λ i. record { key = d.key; numbers = join_into (k i) (ns i) d.numbers }) in
-    let two : Some d ≡ get_or old cell None = sym there ∙ is ∙ get_or_default old cell found None inside in
-    row_adds texts scan row old (set old cell (Some new)) over h words (omega (arith, at, inside))
-    (ap (λ x. set old cell (Some x)) one ∙ ap (λ o. set old cell (Some (with_group own g o))) two ∙ ap (λ i. set old i (Some (with_group own g (get_or old i None)))) at)
+groups_filled : (old new : List (Option (Filled Key))) (i : ℕ) (kinds : List AggregatorKind) (key : Key) (xs : List (Option ℤ)) → i < length old → new ≡ set old i (Some (filled_with kinds key xs (get_or old i None))) → groups_held new ≡ set (groups_held old) i (Some (with_group kinds (record { key = key; numbers = xs }) (get_or (groups_held old) i None)))
+groups_filled old new i kinds key xs h e =
+    ap groups_held e ∙ map-set (option_map group_of) old i (Some (filled_with kinds key xs (get_or old i None)))
+    ∙ ap (λ g. set (groups_held old) i (Some g)) (same (get_or old i None) ∙ ap (with_group kinds (record { key = key; numbers = xs })) (sym (get_or-map (option_map group_of) old i None None h)))
+  where
+    same : (o : Option (Filled Key)) → group_of (filled_with kinds key xs o) ≡ with_group kinds (record { key = key; numbers = xs }) (option_map group_of o)
+    same None = refl
+    same (Some g) = refl
 
-pub opened_adds : (texts : Texts) (scan : Scan) (row cell : ℕ) (old : List (Option Group)) (found : Option Group) (new : Group) → IsOver texts scan → row < length scan.segment.rows → AreWords (counted_at scan row).numbers → cell ≡ cell_at scan row → cell < length old → found ≡ get_or old cell found → found ≡ None → new ≡ counted_at scan row → Adds scan.query texts (counted_at scan row ∷ []) old (set (set old cell (get_or old cell found)) cell (Some new))
-opened_adds texts scan row cell old found new over h words at inside is none e =
+pub filled_adds : (texts : Texts) (scan : Scan) (row cell : ℕ) (kinds : List AggregatorKind) (numbers : List (Option ℤ)) (old new : List (Option (Filled Key))) → IsOver texts scan → row < length scan.segment.rows → AreWords (counted_at scan row).numbers → cell ≡ cell_at scan row → cell < length old → kinds ≡ kinds_of scan.query → numbers ≡ (counted_at scan row).numbers → new ≡ set old cell (Some (filled_with kinds (counted_at scan row).key numbers (get_or old cell None))) → Adds scan.query texts (counted_at scan row ∷ []) (groups_held old) (groups_held new)
+filled_adds texts scan row cell kinds numbers old new over h words at inside k ns e =
     let own = kinds_of scan.query in
-    let g = counted_at scan row in
-    let two : None ≡ get_or old cell None = sym none ∙ is ∙ get_or_default old cell found None inside in
-    row_adds texts scan row old (set (set old cell (get_or old cell found)) cell (Some new)) over h words (omega (arith, at, inside))
-    (ap (λ l. set l cell (Some new)) (set-get_or old cell found) ∙ ap (λ x. set old cell (Some x)) e
-    ∙ ap (λ o. set old cell (Some (with_group own g o))) two ∙ ap (λ i. set old i (Some (with_group own g (get_or old i None)))) at)
+    let key = (counted_at scan row).key in
+    let held = groups_held old in
+    let long = length-map old (option_map group_of) in
+    row_adds texts scan row held (groups_held new) over h words (omega (arith, at, inside, long))
+    (groups_filled old new cell kinds key numbers inside e
+    ∙ ap (λ ks. set held cell (Some (with_group ks (record { key = key; numbers = numbers }) (get_or held cell None)))) k
+    ∙ ap (λ xs. set held cell (Some (with_group own (record { key = key; numbers = xs }) (get_or held cell None)))) ns
+    ∙ ap (λ i. set held i (Some (with_group own (counted_at scan row) (get_or held i None)))) at)
 
 -- ---- slices of segments
+
+-- the same room, of a query and a number of codes that are the same
+pub room_at : (query other : Query) (room more : ℕ) (cells : Cells Key) → query ≡ other → room ≡ more → HasRoom query room cells → HasRoom other more cells
+room_at query other room more cells q r has = record { width = has.width ∙ ap (λ (p : Query). length p.aggregations) q; long = has.long ∙ r }
 
 pub slice_adds : (query : Query) (segment : Segment) (scan : Scan) (texts : Texts) (pieces items : List Extent) (old new : List (Option Group)) → scan.query ≡ query → scan.segment ≡ segment → pieces ≡ items → All IsRising texts → AreCoded segment texts (places_of query segment.fields) scan.columns → query.granularity ≡ granularity.All → ((ts : Texts) → IsOver ts scan → Adds scan.query ts (flat_map (counted_by scan.query scan.segment) pieces) old new) → Adds query texts (flat_map (counted_by query segment) items) old new
 slice_adds query segment scan texts pieces items old new q s p rising coded one adds =

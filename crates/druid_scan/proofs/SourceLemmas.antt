@@ -1,9 +1,9 @@
 -- Numbers by their sources.
-use Rattle.std.proofs.Common.{◌≡◌, ◌∙◌, ℕ, ◌+◌, ◌<◌, ℤ, List, [], ◌∷◌, ◌++◌, length, map, get_or, take, Option, Some, None, Bool, true, false, refl, sym, subst, rules}
+use Rattle.std.proofs.Common.{◌≡◌, ◌∙◌, ℕ, suc, ap, ◌+◌, ◌<◌, ℤ, List, [], ◌∷◌, ◌++◌, length, map, get_or, take, Option, Some, None, Bool, true, false, refl, sym, subst, rules}
 use Rattle.std.specs.Prelude.{All, FitsSigned, option_and_then, pos, if◌then◌else◌}
 use Rattle.std.specs.Str.{bytes_eq}
 use Rattle.std.specs.Int.{w64}
-use Rattle.std.proofs.lemmas.List.{take_more}
+use Rattle.std.proofs.lemmas.List.{take_more, length-map}
 use Rattle.std.proofs.lemmas.List.Elements.{All-nil, All-cons, All-get_or, All-head, All-tail}
 use Rattle.druid_rows.specs.Rows.{no_row, HasWords}
 use Rattle.druid_rows.specs.Segment.{Segment, HaveWords, row_at}
@@ -14,7 +14,7 @@ use Rattle.druid_scan.specs.declared.located.NumberSource.{NumberSource}
 use Rattle.druid_scan.specs.declared.cells.Numbers.{Numbers}
 use Rattle.druid_partial.specs.Groups.{AreWords}
 use Rattle.druid_scan.specs.Rows.{number_in, one_or, taken, tells}
-use Rattle.druid_scan.specs.Places.{sources_of, source_number}
+use Rattle.druid_scan.specs.Places.{sources_of, source_number, source_of}
 use Rattle.druid_scan.specs.Cells.{Column, IsColumn, AreColumns, HasNumber, number_from}
 use Rattle.druid_scan.specs.Scans.{AreFrom, AreNumbers}
 use Rattle.druid_partial.proofs.MergedLemmas.{IsWord}
@@ -91,3 +91,12 @@ row_words query segment row words h = each query.aggregations
     each : (as' : List Aggregator) → AreWords (map (taken segment.fields (row_at segment row)) as')
     each [] = All-nil IsWord
     each (a ∷ more) = All-cons IsWord _ _ (one_word a.kind _ (field_word segment.fields.metrics (row_at segment row).metrics a.field kept)) (each more)
+
+pub numbers_long : (query : Query) (segment : Segment) (ns : List Numbers) → AreNumbers segment (sources_of query segment.fields) ns → length ns ≡ length query.aggregations
+numbers_long query segment ns are = each (sources_of query segment.fields) ns are ∙ length-map query.aggregations (source_of segment.fields)
+  where
+    each : (ss : List NumberSource) (ms : List Numbers) → AreNumbers segment ss ms → length ms ≡ length ss
+    each [] [] a = refl
+    each [] (m ∷ ms) a = absurd a
+    each (x ∷ ss) [] a = absurd a
+    each (x ∷ ss) (m ∷ ms) a = ap suc (each ss ms a.1)

@@ -1,6 +1,6 @@
 -- Groups of one bucket in an array, each at the number that the codes of its values make. Only proofs and private functions use
 -- this: what it means is in Groups.
-use Rattle.std.specs.Prelude.{◌≡◌, ℕ, ◌+◌, ◌*◌, ◌<◌, ℤ, pos, List, [], ◌∷◌, length, slice_index_or, Option, Some, None, IfSome, Vec, ⊤}
+use Rattle.std.specs.Prelude.{◌≡◌, ℕ, ◌+◌, ◌*◌, ◌<◌, ℤ, pos, List, [], ◌∷◌, length, map, take, drop, slice_index_or, Bool, true, false, Option, Some, None, IfSome, option_map, Vec, ⊤}
 use Rattle.std.specs.Global.{Global}
 use Rattle.std.specs.Ordering.{nat_cmp}
 use Rattle.std.specs.List.Sorted.{IsStrictlySortedBy}
@@ -87,6 +87,47 @@ HasNumber row (numbers.Metric of) = row < length of.now
 abbrev pub with_row : List AggregatorKind → ℕ → List (Option ℤ) → Option Cell → Cell
 with_row kinds row numbers None = record { row = row; numbers = numbers }
 with_row kinds row numbers (Some c) = record { row = c.row; numbers = join_into kinds numbers c.numbers }
+
+-- ---- groups in an array
+
+-- what is kept once of a group, and its numbers
+abbrev pub Filled : Type 0 → Type 0
+Filled K = K × List (Option ℤ)
+
+-- how many numbers each group has, and the groups that are there
+pub record Cells (K : Type 0) : Type 0 where
+  pub width : ℕ
+  pub groups : List (Option (Filled K))
+
+-- the groups whose numbers stand one after another
+abbrev pub groups_from : {K : Type 0} → ℕ → List (Option K) → List (Option ℤ) → List (Option (Filled K))
+groups_from width [] numbers = []
+groups_from width (kept ∷ more) numbers = option_map (λ k. (k, take width numbers)) kept ∷ groups_from width more (drop width numbers)
+
+abbrev pub is_there : {X : Type 0} → Option X → Bool
+is_there None = false
+is_there (Some x) = true
+
+-- a mark for each cell, and numbers for each
+pub record AreParts {K : Type 0} (width : ℕ) (filled : List Bool) (kept : List (Option K)) (numbers : List (Option ℤ)) : Type 0 where
+  pub marks : filled ≡ map is_there kept
+  pub long : length numbers ≡ length kept * width
+
+-- a group with a row's numbers joined
+abbrev pub joined_with : {K : Type 0} → List AggregatorKind → List (Option ℤ) → Option (Filled K) → Option (Filled K)
+joined_with kinds numbers old = option_map (λ g. (g.0, join_into kinds numbers g.1)) old
+
+-- a group with a row more, or that of the row alone
+abbrev pub filled_with : {K : Type 0} → List AggregatorKind → K → List (Option ℤ) → Option (Filled K) → Filled K
+filled_with kinds kept numbers None = (kept, numbers)
+filled_with kinds kept numbers (Some g) = (g.0, join_into kinds numbers g.1)
+
+-- where a row of each group is kept
+abbrev pub cell_of : Filled ℕ → Cell
+cell_of g = record { row = g.0; numbers = g.1 }
+
+abbrev pub cells_in : List (Option (Filled ℕ)) → List (Option Cell)
+cells_in groups = map (option_map cell_of) groups
 
 -- ---- cells by their numbers
 

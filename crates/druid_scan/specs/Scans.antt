@@ -13,7 +13,7 @@ use Rattle.druid_scan.specs.Rows.{passes_if, tells, is_asked}
 use Rattle.druid_scan.specs.Places.{places_of, sources_of, source_number}
 use Rattle.druid_filter.specs.Filters.{value_in}
 use Rattle.druid_scan.specs.CodeFilters.{judge_if}
-use Rattle.druid_scan.specs.Cells.{Column, Cell, AreColumns, HasNumber, number_from, cell_from}
+use Rattle.druid_scan.specs.Cells.{Column, Cell, Cells, AreColumns, HasNumber, number_from, cell_from}
 use Rattle.druid_scan.specs.declared.code_filter.CodeFilter.{CodeFilter}
 use Rattle.druid_scan.specs.declared.located.NumberSource.{NumberSource}
 use Rattle.druid_scan.specs.declared.cells.Numbers.{Numbers}
@@ -84,6 +84,11 @@ BucketsRise scan = (i j : ℕ) → i ≤ j → j < length scan.segment.rows → 
 -- the rows from one place to a second have earlier buckets than those from there to a third
 abbrev pub AreApart : Scan → ℕ → ℕ → ℕ → Type 0
 AreApart scan start at end = (i j : ℕ) → start ≤ i → i < at → at ≤ j → j < end → bucket_at scan i < bucket_at scan j
+
+-- so many cells, for groups of the query
+pub record HasRoom {K : Type 0} (query : Query) (room : ℕ) (cells : Cells K) : Type 0 where
+  pub width : cells.width ≡ length query.aggregations
+  pub long : length cells.groups ≡ room
 
 -- ---- groups of one bucket in an array
 

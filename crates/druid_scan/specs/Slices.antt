@@ -1,6 +1,6 @@
 -- Groups of all rows that a query asks of several segments, in one array. Only proofs and private functions use this: what it
 -- means is in Groups.
-use Rattle.std.specs.Prelude.{◌≡◌, ℕ, ◌+◌, ◌*◌, ◌<◌, ◌≤◌, List, [], ◌∷◌, ◌++◌, length, map, slice_get, All, Vec, Option, Some, None, ⊤}
+use Rattle.std.specs.Prelude.{◌≡◌, ℕ, ◌+◌, ◌*◌, ◌<◌, ◌≤◌, List, [], ◌∷◌, ◌++◌, length, map, slice_get, All, Vec, Option, Some, None, option_map, ⊤}
 use Rattle.std.specs.Borrow.{Bor}
 use Rattle.std.specs.Global.{Global}
 use Rattle.std.specs.List.Sorted.{IsStrictlySortedBy}
@@ -11,10 +11,10 @@ use Rattle.druid_rows.specs.Columns.{value_at}
 use Rattle.druid_rows.specs.Segment.{Segment, row_at}
 use Rattle.druid_query.specs.Query.{Query}
 use Rattle.druid_query.specs.declared.aggregator.AggregatorKind.{AggregatorKind}
-use Rattle.druid_partial.specs.Groups.{Group}
+use Rattle.druid_partial.specs.Groups.{Group, Key}
 use Rattle.druid_partial.specs.Partials.{earliest, kinds_of, HasNumbers}
 use Rattle.druid_scan.specs.Places.{at_place, places_of}
-use Rattle.druid_scan.specs.Cells.{Column, code_at, HasCode, join_into}
+use Rattle.druid_scan.specs.Cells.{Column, code_at, HasCode, join_into, Filled}
 use Rattle.druid_scan.specs.Scans.{Scan, AreCounted}
 
 -- ---- values by codes of the query
@@ -92,6 +92,13 @@ pub record IsHeld (query : Query) (texts : Texts) (place : ℕ) (g : Group) : Ty
 
 abbrev pub AreHeld : Query → Texts → List (Option Group) → Type 0
 AreHeld query texts cells = (place : ℕ) (g : Group) → slice_get cells place ≡ Some (Some g) → IsHeld query texts place g
+
+-- where the key of each group is kept
+abbrev pub group_of : Filled Key → Group
+group_of g = record { key = g.0; numbers = g.1 }
+
+abbrev pub groups_held : List (Option (Filled Key)) → List (Option Group)
+groups_held groups = map (option_map group_of) groups
 
 -- the groups that are there, in order
 abbrev pub present : List (Option Group) → List Group

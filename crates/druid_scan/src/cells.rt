@@ -1,5 +1,5 @@
-//! Groups of one bucket in an array, each at the number that the codes of its values make.
-ghost use Rattle.std.specs.Prelude.{◌≡◌, ◌<◌, map, set, length, All, Some, None, IfOk, IfSome, OnOk, FitsSigned, slice_index_or, replicate};
+//! Numbers that aggregators take of rows, and groups by the numbers that the codes of their values make.
+ghost use Rattle.std.specs.Prelude.{◌≡◌, ◌<◌, map, length, All, Some, None, IfOk, IfSome, OnOk, FitsSigned, slice_index_or};
 ghost use Rattle.std.specs.Int.{w64};
 ghost use Rattle.druid_scan.specs.Cells.{number_from, HasNumber, join_into, with_row, IsEntered};
 
@@ -17,7 +17,7 @@ pub(crate) enum Numbers<'a> {
     // There are none.
     Null,
     // Those of a metric.
-    Metric(&'a [Option<i64>]),
+    Metric(&'a druid_rows::Numbers),
 }
 
 // A group: a row of it, and what the aggregators tell of its rows so far.
@@ -35,21 +35,14 @@ impl Model for Cell {
     ghost view = { λ a. record { row = a.row; numbers = a.numbers.items } };
 }
 
-fn metric_at(numbers: &[Option<i64>], row: usize) -> Option<i64>
-    requires { row < length numbers.now }
-    ensures { result ≡ slice_index_or numbers.now row None }
-{
-    numbers[row]
-}
-
-fn number_at(numbers: &Numbers<'_>, row: usize) -> Option<i64>
+pub(crate) fn number_at(numbers: &Numbers<'_>, row: usize) -> Option<i64>
     requires { HasNumber row numbers.now }
     ensures { result ≡ number_from row numbers.now }
 {
     match numbers {
         Numbers::One => Some(1),
         Numbers::Null => None,
-        Numbers::Metric(numbers) => metric_at(numbers, row),
+        Numbers::Metric(numbers) => numbers.get(row),
     }
 }
 
@@ -105,40 +98,6 @@ impl Cell {
     {
         (self.row, self.numbers)
     }
-}
-
-// No groups.
-pub(crate) fn empty_cells<T: Drop>(alloc: Global, room: usize) -> Result<Vec<Option<T>>, AllocError>
-    ensures { IfOk result (λ cells. cells.items ≡ replicate room None) }
-{
-    let mut cells = Vec::with_capacity(alloc, room)?;
-    for _ in 0..room {
-        cells.push(None)?;
-    }
-    Ok(cells)
-}
-
-// Joins a row to the group of a cell.
-pub(crate) fn add_row(
-    alloc: Global,
-    kinds: &[AggregatorKind],
-    columns: &[Numbers<'_>],
-    cells: &mut [Option<Cell>],
-    cell: usize,
-    row: usize,
-) -> Result<(), AllocError>
-    requires numbers { All (HasNumber row) columns.now }
-    requires cell { cell < length cells.now }
-    ensures { OnOk result (cells.new ≡ set cells.old cell
-        (Some (with_row kinds.now row (map (number_from row) columns.now) (slice_index_or cells.old cell None)))) }
-{
-    if let Some(group) = &mut cells[cell] {
-        group.join(kinds, columns, row);
-        return Ok(());
-    }
-    let numbers = numbers_at(alloc, columns, row)?;
-    cells[cell] = Some(Cell { row, numbers });
-    Ok(())
 }
 
 // Groups by the numbers of their cells, where these are too many for an array.

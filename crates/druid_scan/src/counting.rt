@@ -8,18 +8,18 @@ ghost use Rattle.std.specs.List.{flat_map};
 ghost use Rattle.druid_partial.specs.Partials.{bucket_of, earliest, kinds_of, IsPartialFor};
 ghost use Rattle.druid_scan.specs.Rows.{is_asked, counted_by};
 ghost use Rattle.druid_scan.specs.Entries.{groups_of};
-ghost use Rattle.druid_scan.specs.Cells.{room_from, AreColumns};
+ghost use Rattle.druid_scan.specs.Cells.{room_from, cells_in, AreColumns};
 ghost use Rattle.druid_scan.specs.Places.{places_of};
-ghost use Rattle.druid_scan.specs.Slices.{texts_in, AreCoded, IsRising, IsOver, Adds, Texts};
-ghost use Rattle.druid_scan.specs.Scans.{counted_at, bucket_at, groups_in, groups_by, IsKept, IsJoined, IsJoinedBy, AreEntries, AreKept, AreCounted, AreUpto, AreCells, ComeBefore, HaveBucket, BucketsRise};
+ghost use Rattle.druid_scan.specs.Slices.{texts_in, groups_held, AreCoded, IsRising, IsOver, Adds, Texts};
+ghost use Rattle.druid_scan.specs.Scans.{counted_at, bucket_at, groups_in, groups_by, IsKept, IsJoined, IsJoinedBy, AreEntries, AreKept, AreCounted, AreUpto, AreCells, ComeBefore, HasRoom, HaveBucket, BucketsRise};
 
-use crate::cells::{Cell, Numbers, Sparse, add_row, empty_cells, enter_row, numbers_at};
+use crate::cells::{Numbers, Sparse, enter_row, numbers_at};
 use crate::code_filter::{CodeFilter, filter_of, holds};
 use crate::column::{Column, cell_of, room_of};
+use crate::group_array::Cells;
 use crate::group_map::{GroupMap, add};
-use crate::key::KeyRef;
+use crate::key::{Key, KeyRef};
 use crate::located::{columns_of, numbers_of, places_of, sources_of, texts_at, values_at};
-use crate::open_group::OpenGroup;
 use crate::texts::coded_columns;
 use druid_partial::{Group, Partial, earliest, kinds_of, merge};
 use druid_query::{AggregatorKind, Query};
@@ -295,15 +295,19 @@ impl<'a> Scan<'a> {
     }
 
     // Joins a row to the group of its cell.
-    fn put(&self, alloc: Global, row: usize, cells: &mut [Option<Cell>]) -> Result<(), AllocError>
+    fn put(&self, row: usize, cells: &mut Cells<usize>)
         requires row { row < length self.now.segment.rows }
-        requires room { length cells.now ≡ room_from self.now.columns 1 }
+        requires room { HasRoom self.now.query (room_from self.now.columns 1) cells.now }
         requires small { room_from self.now.columns 1 < 2 ^ 64 }
-        ensures joined { OnOk result (IsJoined self.now row cells.old cells.new) }
+        ensures room { HasRoom self.now.query (room_from self.now.columns 1) cells.new }
+        ensures joined { IsJoined self.now row (cells_in cells.old.groups) (cells_in cells.new.groups) }
         ensures words { AreWords (counted_at self.now row).numbers }
     {
         let cell = cell_of(&self.columns, row);
-        add_row(alloc, &self.kinds, &self.numbers, cells, cell, row)
+        if cells.join(&self.kinds, &self.numbers, cell, row) {
+            return;
+        }
+        cells.put(&self.numbers, cell, row, row);
     }
 
     // What the rows of one bucket from one place to another tell, in their cells.
@@ -314,19 +318,19 @@ impl<'a> Scan<'a> {
         from: usize,
         to: usize,
         room: usize,
-    ) -> Result<Vec<Option<Cell>>, AllocError>
+    ) -> Result<Cells<usize>, AllocError>
         requires order { from ≤ to }
         requires end { to ≤ length self.now.segment.rows }
         requires bucket { HaveBucket self.now (bucket_at self.now from) from to }
         requires room { room ≡ room_from self.now.columns 1 }
-        ensures cells { IfOk result (λ cells. AreCells self.now (bucket_at self.now from) cells.items) }
+        ensures cells { IfOk result (λ cells. AreCells self.now (bucket_at self.now from) (cells_in cells.groups)) }
         ensures groups { IfOk result (λ cells. (groups : List Group) → ComeBefore self.now groups from to
-            → AreUpto self.now interval from groups → AreUpto self.now interval to (groups ++ groups_in self.now cells.items)) }
+            → AreUpto self.now interval from groups → AreUpto self.now interval to (groups ++ groups_in self.now (cells_in cells.groups))) }
     {
-        let mut cells = empty_cells(alloc, room)?;
+        let mut cells = Cells::new(alloc, room, self.numbers.len())?;
         for row in from..to {
             if self.asks(interval, row) {
-                self.put(alloc, row, &mut cells)?;
+                self.put(row, &mut cells);
             }
         }
         Ok(cells)
@@ -351,15 +355,14 @@ impl<'a> Scan<'a> {
     fn add_groups(
         &self,
         alloc: Global,
-        cells: Vec<Option<Cell>>,
+        mut cells: Cells<usize>,
         groups: &mut Vec<Group>,
     ) -> Result<(), AllocError>
-        requires { All (IsKept self.now) cells.items }
-        ensures { OnOk result (groups.new.items ≡ groups.old.items ++ groups_in self.now cells.items) }
+        requires { All (IsKept self.now) (cells_in cells.groups) }
+        ensures { OnOk result (groups.new.items ≡ groups.old.items ++ groups_in self.now (cells_in cells.groups)) }
     {
-        for cell in cells {
-            if let Some(cell) = cell {
-                let (row, numbers) = cell.into_parts();
+        for cell in 0..cells.room() {
+            if let Some((row, numbers)) = cells.take(alloc, cell)? {
                 groups.push(self.group(alloc, row, numbers)?)?;
             }
         }
@@ -462,36 +465,30 @@ impl<'a> Scan<'a> {
         self.add_entries(alloc, cells, groups)
     }
 
-    // The group of a row.
-    fn open(&self, alloc: Global, row: usize) -> Result<OpenGroup, AllocError>
+    // The key of a row, with texts of its own.
+    fn own_key(&self, alloc: Global, row: usize) -> Result<Key, AllocError>
         requires { row < length self.now.segment.rows }
-        ensures { IfOk result (λ group. group ≡ counted_at self.now row) }
+        ensures { IfOk result (λ key. key ≡ (counted_at self.now row).key) }
     {
         let values = texts_at(alloc, self.segment, row, &self.places)?;
-        let numbers = self.numbers(alloc, row)?;
-        Ok(OpenGroup::new(self.bucket(row), values, numbers))
+        Ok(Key::new(self.bucket(row), values))
     }
 
     // Joins a row to the group of its cell, among those of several segments.
-    fn put_open(
-        &self,
-        alloc: Global,
-        row: usize,
-        cells: &mut [Option<OpenGroup>],
-    ) -> Result<(), AllocError>
+    fn put_open(&self, alloc: Global, row: usize, cells: &mut Cells<Key>) -> Result<(), AllocError>
         requires row { row < length self.now.segment.rows }
-        requires room { length cells.now ≡ room_from self.now.columns 1 }
+        requires room { HasRoom self.now.query (room_from self.now.columns 1) cells.now }
         requires small { room_from self.now.columns 1 < 2 ^ 64 }
-        ensures { OnOk result ((texts : Texts) → IsOver texts self.now
-            → Adds self.now.query texts (counted_at self.now row ∷ []) cells.old cells.new) }
+        ensures room { OnOk result (HasRoom self.now.query (room_from self.now.columns 1) cells.new) }
+        ensures adds { OnOk result ((texts : Texts) → IsOver texts self.now
+            → Adds self.now.query texts (counted_at self.now row ∷ []) (groups_held cells.old.groups) (groups_held cells.new.groups)) }
     {
         let cell = cell_of(&self.columns, row);
-        if let Some(group) = &mut cells[cell] {
-            group.join(&self.kinds, &self.numbers, row);
+        if cells.join(&self.kinds, &self.numbers, cell, row) {
             return Ok(());
         }
-        let group = self.open(alloc, row)?;
-        cells[cell] = Some(group);
+        let key = self.own_key(alloc, row)?;
+        cells.put(&self.numbers, cell, row, key);
         Ok(())
     }
 
@@ -500,12 +497,13 @@ impl<'a> Scan<'a> {
         &self,
         alloc: Global,
         interval: Interval,
-        cells: &mut [Option<OpenGroup>],
+        cells: &mut Cells<Key>,
     ) -> Result<(), AllocError>
-        requires room { length cells.now ≡ room_from self.now.columns 1 }
+        requires room { HasRoom self.now.query (room_from self.now.columns 1) cells.now }
         requires small { room_from self.now.columns 1 < 2 ^ 64 }
-        ensures { OnOk result ((texts : Texts) → IsOver texts self.now
-            → Adds self.now.query texts (counted_by self.now.query self.now.segment interval) cells.old cells.new) }
+        ensures room { OnOk result (HasRoom self.now.query (room_from self.now.columns 1) cells.new) }
+        ensures adds { OnOk result ((texts : Texts) → IsOver texts self.now
+            → Adds self.now.query texts (counted_by self.now.query self.now.segment interval) (groups_held cells.old.groups) (groups_held cells.new.groups)) }
     {
         let (start, end) = self.segment.places_in(interval);
         for row in start..end {
@@ -521,12 +519,13 @@ impl<'a> Scan<'a> {
         &self,
         alloc: Global,
         pieces: &[Interval],
-        cells: &mut [Option<OpenGroup>],
+        cells: &mut Cells<Key>,
     ) -> Result<(), AllocError>
-        requires room { length cells.now ≡ room_from self.now.columns 1 }
+        requires room { HasRoom self.now.query (room_from self.now.columns 1) cells.now }
         requires small { room_from self.now.columns 1 < 2 ^ 64 }
-        ensures { OnOk result ((texts : Texts) → IsOver texts self.now
-            → Adds self.now.query texts (flat_map (counted_by self.now.query self.now.segment) pieces.now) cells.old cells.new) }
+        ensures room { OnOk result (HasRoom self.now.query (room_from self.now.columns 1) cells.new) }
+        ensures adds { OnOk result ((texts : Texts) → IsOver texts self.now
+            → Adds self.now.query texts (flat_map (counted_by self.now.query self.now.segment) pieces.now) (groups_held cells.old.groups) (groups_held cells.new.groups)) }
     {
         for interval in pieces {
             self.add_piece(alloc, *interval, cells)?;

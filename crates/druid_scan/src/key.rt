@@ -2,10 +2,11 @@
 ghost use Rattle.std.specs.Prelude.{◌≡◌, Some, refl, map, IfOk, option_map};
 ghost use Rattle.std.specs.Ordering.{eq_by_cmp};
 ghost use Rattle.druid_rows.specs.Rows.{nullable_texts_of};
-ghost use Rattle.druid_partial.specs.Groups.{key_cmp};
+ghost use Rattle.druid_partial.specs.Groups.{AreWords, key_cmp};
 ghost use Rattle.druid_partial.specs.Orders as order;
 
 use druid_base::copy_text;
+use druid_partial::Group;
 use druid_time::Instant;
 use std::alloc::{AllocError, Global};
 use std::cmp::Ordering;
@@ -94,5 +95,38 @@ impl<'a> KeyRef<'a> {
             texts.push(copy_text(alloc, *value)?)?;
         }
         Ok(texts)
+    }
+}
+
+// The same with texts of its own, so that no segment is looked into for them again.
+#[derive(Drop)]
+pub(crate) struct Key {
+    bucket: Instant,
+    values: Vec<Option<String>>,
+}
+
+impl Model for Key {
+    ghost use Rattle.druid_filter.specs.Values.{nullable_texts_of};
+    ghost use Rattle.druid_partial.specs.Groups.{Key};
+
+    ghost Value = { Key };
+
+    ghost view = { λ a. record { bucket = a.bucket; values = nullable_texts_of a.values.items } };
+}
+
+impl Key {
+    // The key of these parts.
+    pub(crate) fn new(bucket: Instant, values: Vec<Option<String>>) -> Key
+        ensures { result ≡ record { bucket = bucket; values = nullable_texts_of values.items } }
+    {
+        Key { bucket, values }
+    }
+
+    // The group of that key, with these numbers.
+    pub(crate) fn group(self, numbers: Vec<Option<i64>>) -> Group
+        requires { AreWords numbers.items }
+        ensures { result ≡ record { key = self; numbers = numbers.items } }
+    {
+        Group::new(self.bucket, self.values, numbers)
     }
 }

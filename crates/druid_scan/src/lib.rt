@@ -5,11 +5,11 @@ mod cells;
 mod code_filter;
 mod column;
 mod counting;
+mod group_array;
 mod group_map;
 mod key;
 mod laws;
 mod located;
-mod open_group;
 mod slices;
 mod texts;
 

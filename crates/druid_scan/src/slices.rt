@@ -5,14 +5,14 @@ ghost use Rattle.std.specs.List.{flat_map};
 ghost use Rattle.druid_time.specs.declared.granularity.Granularity.TheVariants as granularity;
 ghost use Rattle.druid_partial.specs.Groups.{AreWords, Group, IsResult};
 ghost use Rattle.druid_partial.specs.Partials.{kinds_of, IsPartialFor};
-ghost use Rattle.druid_scan.specs.Scans.{AreCounted};
-ghost use Rattle.druid_scan.specs.Slices.{texts_in, room_over, present, IsRising, Adds};
+ghost use Rattle.druid_scan.specs.Scans.{AreCounted, HasRoom};
+ghost use Rattle.druid_scan.specs.Slices.{texts_in, room_over, groups_held, present, IsRising, Adds};
 ghost use Rattle.druid_scan.specs.Told.{told_by};
 
-use crate::cells::empty_cells;
 use crate::code_filter::dimension_of;
 use crate::counting::{Scan, partial_over};
-use crate::open_group::OpenGroup;
+use crate::group_array::Cells;
+use crate::key::Key;
 use crate::texts::{Slice, are_rising, room_over, texts_over};
 use druid_partial::{Group, Partial, kinds_of, merge};
 use druid_query::Query;
@@ -70,15 +70,16 @@ fn add_slice<'a>(
     query: &'a Query,
     slice: &Slice<'a>,
     lists: &[Vec<&str>],
-    cells: &mut [Option<OpenGroup>],
+    cells: &mut Cells<Key>,
 ) -> Result<bool, AllocError>
     requires one { query.now.granularity ≡ granularity.All }
     requires long { length lists.now ≡ length query.now.dimensions }
     requires rising { All IsRising (texts_in lists.now) }
-    requires room { length cells.now ≡ room_over (texts_in lists.now) 1 }
+    requires room { HasRoom query.now (room_over (texts_in lists.now) 1) cells.now }
     requires small { room_over (texts_in lists.now) 1 < 2 ^ 64 }
-    ensures { IfOk result (λ done. IsTrue done
-        → Adds query.now (texts_in lists.now) (told_by query.now slice.now) cells.old cells.new) }
+    ensures room { IfOk result (λ done. IsTrue done → HasRoom query.now (room_over (texts_in lists.now) 1) cells.new) }
+    ensures adds { IfOk result (λ done. IsTrue done
+        → Adds query.now (texts_in lists.now) (told_by query.now slice.now) (groups_held cells.old.groups) (groups_held cells.new.groups)) }
 {
     let Some(scan) = Scan::over(alloc, query, slice.0, lists)? else {
         return Ok(false);
@@ -93,15 +94,16 @@ fn add_slices<'a>(
     query: &'a Query,
     slices: &[Slice<'a>],
     lists: &[Vec<&str>],
-    cells: &mut [Option<OpenGroup>],
+    cells: &mut Cells<Key>,
 ) -> Result<bool, AllocError>
     requires one { query.now.granularity ≡ granularity.All }
     requires long { length lists.now ≡ length query.now.dimensions }
     requires rising { All IsRising (texts_in lists.now) }
-    requires room { length cells.now ≡ room_over (texts_in lists.now) 1 }
+    requires room { HasRoom query.now (room_over (texts_in lists.now) 1) cells.now }
     requires small { room_over (texts_in lists.now) 1 < 2 ^ 64 }
-    ensures { IfOk result (λ done. IsTrue done
-        → Adds query.now (texts_in lists.now) (flat_map (told_by query.now) slices.now) cells.old cells.new) }
+    ensures room { IfOk result (λ done. IsTrue done → HasRoom query.now (room_over (texts_in lists.now) 1) cells.new) }
+    ensures adds { IfOk result (λ done. IsTrue done
+        → Adds query.now (texts_in lists.now) (flat_map (told_by query.now) slices.now) (groups_held cells.old.groups) (groups_held cells.new.groups)) }
 {
     for slice in slices {
         let done = add_slice(alloc, query, slice, lists, cells)?;
@@ -117,10 +119,10 @@ fn cells_over<'a>(
     alloc: Global,
     query: &'a Query,
     slices: &[Slice<'a>],
-) -> Result<Option<Vec<Option<OpenGroup>>>, AllocError>
+) -> Result<Option<Cells<Key>>, AllocError>
     requires { query.now.granularity ≡ granularity.All }
     ensures { IfOk result (λ found. IfSome found (λ cells.
-        AreCounted query.now (flat_map (told_by query.now) slices.now) (present cells.items))) }
+        AreCounted query.now (flat_map (told_by query.now) slices.now) (present (groups_held cells.groups)))) }
 {
     let lists = texts_over(alloc, query, slices)?;
     let Some(room) = room_over(&lists) else {
@@ -133,7 +135,7 @@ fn cells_over<'a>(
     if !are_rising(&lists) {
         return Ok(None);
     }
-    let mut cells = empty_cells(alloc, room)?;
+    let mut cells = Cells::new(alloc, room, query.aggregations().len())?;
     let done = add_slices(alloc, query, slices, &lists, &mut cells)?;
     if done {
         return Ok(Some(cells));
@@ -142,14 +144,14 @@ fn cells_over<'a>(
 }
 
 // The groups that are in cells.
-fn closed(alloc: Global, cells: Vec<Option<OpenGroup>>) -> Result<Vec<Group>, AllocError>
-    requires { All (λ group. AreWords group.numbers) (present cells.items) }
-    ensures { IfOk result (λ groups. groups.items ≡ present cells.items) }
+fn closed(alloc: Global, mut cells: Cells<Key>) -> Result<Vec<Group>, AllocError>
+    requires { All (λ group. AreWords group.numbers) (present (groups_held cells.groups)) }
+    ensures { IfOk result (λ groups. groups.items ≡ present (groups_held cells.groups)) }
 {
     let mut groups = Vec::new(alloc);
-    for cell in cells {
-        if let Some(cell) = cell {
-            groups.push(cell.close())?;
+    for cell in 0..cells.room() {
+        if let Some((key, numbers)) = cells.take(alloc, cell)? {
+            groups.push(key.group(numbers))?;
         }
     }
     Ok(groups)

@@ -2,13 +2,12 @@ use Rattle.std.proofs.Common.{◌≡◌, ◌∙◌, ℕ, List, Option, map, ap, 
 use Rattle.std.specs.Prelude.{All}
 use Rattle.druid_rows.specs.Rows.{nullable_texts_of}
 use Rattle.druid_rows.specs.Segment.{row_at}
-use Rattle.druid_partial.specs.Groups.{Key}
 use Rattle.druid_partial.specs.Partials.{bucket_of}
-use Rattle.druid_scan.specs.Rows.{value_for, tells}
+use Rattle.druid_scan.specs.Rows.{value_for}
 use Rattle.druid_scan.specs.Places.{at_place, places_of, IsPlace}
-use Rattle.druid_scan.specs.Scans.{Scan, counted_at, bucket_at}
-use Rattle.druid_scan.proofs.PlaceLemmas.{are_places, values_counted, group_is}
-use Rattle.druid_scan.proofs.counting.Scan.open.Goals as goal
+use Rattle.druid_scan.specs.Scans.{Scan, bucket_at}
+use Rattle.druid_scan.proofs.PlaceLemmas.{are_places, values_counted}
+use Rattle.druid_scan.proofs.counting.Scan.own_key.Goals as goal
 
 pub texts_at-requires-clause-places : goal.texts_at-requires-clause-places
 texts_at-requires-clause-places c =
@@ -25,6 +24,4 @@ returns c =
     let bucket : c.bucket.result ≡ bucket_of query row.time = c.bucket.ensures ∙ ap (λ (p : Scan). bucket_at p c.args.row) (sym c.self.view_is) in
     let values : nullable_texts_of c.in_ok-values.values.items ≡ map (value_for segment.fields row) query.dimensions =
     c.in_ok-values.ensures ∙ ap (map (at_place row.dimensions)) (c.deref.ensures.value ∙ c.self.invariant.places_are) ∙ values_counted query segment.fields row in
-    let key : Key = record { bucket = bucket_of query row.time; values = map (value_for segment.fields row) query.dimensions } in
-    let numbers : c.in_ok-numbers.numbers.items ≡ (tells query segment.fields row).numbers = c.in_ok-numbers.ensures.value ∙ ap (λ (p : Scan). (counted_at p c.args.row).numbers) (sym c.self.view_is) in
-    rw (← c.self.view_is) (c.new.ensures ∙ group_is key _ _ c.in_ok-numbers.numbers.items bucket values ∙ (λ i. record { key = key; numbers = numbers i }))
+    rw (← c.self.view_is) (c.new.ensures ∙ (λ i. record { bucket = bucket i; values = values i }))
