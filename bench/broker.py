@@ -16,7 +16,7 @@ def times_of(lines):
 
 def main():
     parser_of(__doc__).parse_args()
-    program, _ = build('broker', ['druid_broker', 'druid_follow', 'druid_node', 'anyhow'], words=['plan'], proofs={
+    program, _ = build('broker', ['druid_broker', 'druid_broker_follow', 'druid_node', 'anyhow'], words=['plan'], proofs={
         'AnswerLemmas.antt': 'AnswerLemmas.antt.in', 'LinkLemmas.antt': 'LinkLemmas.antt.in',
         'all/Invariants.antt': 'Invariants.antt.in', 'node/Invariants.antt': 'Node.antt.in',
         'partial_in/Answers.antt': 'PartialIn.antt.in'})

@@ -9,7 +9,7 @@ from lib import build, parser_of, run
 
 def main():
     parser_of(__doc__).parse_args()
-    program, _ = build('history', ['druid_changes', 'anyhow'])
+    program, _ = build('history', ['druid_sync_history', 'anyhow'])
     lines, peak = run(program)
     print('\n'.join(lines))
     print(f'{peak:.1f} MiB')

@@ -15,7 +15,7 @@ from lib import build, need, parser_of
 SIZES = (5_000, 10_000, 20_000)
 EDITS = (100, 300)
 KINDS = ('hours', 'level', 'replica', 'weaker')
-CRATES = ('druid_chunks', 'druid_timeline')
+CRATES = ('druid_timeline_chunks', 'druid_timeline')
 
 
 def class_places(program):

@@ -13,7 +13,7 @@ def main():
     parser_of(__doc__).parse_args()
     folder = room('node_files')
     empty(folder)
-    program, _ = build('node', ['druid_node', 'druid_store', 'anyhow'], words=['write', folder])
+    program, _ = build('node', ['druid_node', 'druid_folder_store', 'anyhow'], words=['write', folder])
     size = sum(os.path.getsize(os.path.join(folder, name)) for name in os.listdir(folder)) / 2**20
     lines, peak = run(program, 'serve', folder)
     reported = [(name, int(count), int(spent), int(size)) for name, count, spent, size in map(str.split, lines)]

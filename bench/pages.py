@@ -32,7 +32,7 @@ def measured(program, count):
 
 
 def show_pages():
-    program, _ = build('pages', ['druid_changes', 'druid_sync', 'druid_inventory', 'druid_timeline', 'anyhow'], words=['100'])
+    program, _ = build('pages', ['druid_sync_history', 'druid_sync_text', 'druid_inventory', 'druid_timeline', 'anyhow'], words=['100'])
     small, large = (measured(program, size) for size in SIZES)
     for name in large:
         if name not in ('pages', 'bytes', 'peak'):

@@ -136,7 +136,7 @@ def main():
     path, answer = os.path.join(room(FILES), 'query.json'), os.path.join(room(FILES), 'result.json')
     with open(path, 'w') as f:
         json.dump(QUERIES[0][1], f)
-    program, _ = build('partials', ['druid_partial_text', 'druid_scan', 'druid_query_text', 'serde_json', 'anyhow'], words=[path, answer])
+    program, _ = build('partials', ['druid_partial_text', 'druid_partial_scan', 'druid_query_text', 'serde_json', 'anyhow'], words=[path, answer])
     db = table()
     print(f'{"":42}{"rows a second":>14} {"SQLite":>14}')
     for name, asked, text in QUERIES:

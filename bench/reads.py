@@ -39,7 +39,7 @@ def beside(lines, peak):
 
 def main():
     parser_of(__doc__).parse_args()
-    program, _ = build('reads', ['druid_published', 'anyhow'], words=['alone', '1'], proofs={
+    program, _ = build('reads', ['druid_inventory_views', 'anyhow'], words=['alone', '1'], proofs={
         'alone_on/Invariants.antt': 'AloneOn.antt.in', 'beside/Invariants.antt': 'Beside.antt.in'})
     alone(run(program, 'alone', str(SECONDS * 1000))[0])
     beside(*run(program, 'beside', str(DELTAS), str(KEPT)))

@@ -44,7 +44,7 @@ def main():
             paths.append((f'{count:,} rows, {layout}', layout, os.path.join(place, f'{count}.{layout}')))
             with open(paths[-1][2], 'wb') as file:
                 file.write(file_of(made, layout == 'columns'))
-    program, _ = build('segments', ['druid_segfile', 'anyhow'], words=['read', paths[0][2]])
+    program, _ = build('segments', ['druid_segment_file', 'anyhow'], words=['read', paths[0][2]])
     for name, layout, path in paths:
         best = max((run(program, 'read', path)[0][0] for _ in range(5)), key=lambda line: int(line.split()[-2]))
         written = max((run(program, 'write', layout, path, os.devnull)[0][0] for _ in range(5)), key=lambda line: int(line.split()[-2]))

@@ -5,7 +5,7 @@ import shutil
 import sys
 
 TOP = os.path.dirname(os.path.dirname(os.path.abspath(__file__)))
-PROGRAM = os.environ.get('DRUID_CLUSTER') or os.path.join(TOP, 'crates', 'druid_cluster_program', 'out', 'druid_cluster_program')
+PROGRAM = os.environ.get('DRUID_CLUSTER') or os.path.join(TOP, 'crates', 'druid_program_main', 'out', 'druid_program_main')
 
 # Debian's packages, where they have another name than the command.
 PACKAGES = {'ab': 'apache2-utils', 'cc': 'gcc libc6-dev', 'clang': 'clang libclang-rt-14-dev', 'nginx': 'nginx-light', 'objdump': 'binutils',

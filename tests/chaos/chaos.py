@@ -116,7 +116,7 @@ def planted(name, folder):
     subprocess.run(['git', 'clone', '-q', TOP, copy], check=True)
     subprocess.run(['git', '-C', copy, 'apply', f'{HERE}/plants/{name}.patch'], check=True)
     subprocess.run([f'{copy}/druid_cluster', 'preview', 'replay'], stdin=subprocess.DEVNULL, check=True)
-    return f'{copy}/crates/druid_cluster_program/out/preview'
+    return f'{copy}/crates/druid_program_main/out/preview'
 
 
 def find_plant(name, asked, has_links):

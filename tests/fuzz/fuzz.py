@@ -24,7 +24,7 @@ from lib import below, crates, need, parser_of, room  # noqa: E402
 KIT = os.path.dirname(os.path.dirname(os.path.realpath(shutil.which('rt') or '')))
 CORPUS = os.path.join(HERE, 'corpus.tar.gz')
 TARGETS = ['fuzz_request', 'fuzz_query', 'fuzz_reply', 'fuzz_segment']
-USES = ['druid_wire', 'druid_query_text', 'druid_sync', 'druid_segfile']
+USES = ['druid_http_wire', 'druid_query_text', 'druid_sync_text', 'druid_segment_file']
 COUNTS = '-fsanitize-coverage=inline-8bit-counters,pc-table'
 CLANG = '''#!/bin/sh
 # The kit's clang, which counts branches in what the kit hands it as LLVM's language.

@@ -1,5 +1,5 @@
 //! Numbers in decimal digits: of partitions, asks, places, addresses and incarnations. A length of
-//! HTTP may begin with zeros, so `druid_wire` reads its own.
+//! HTTP may begin with zeros, so `druid_http_wire` reads its own.
 ghost use Rattle.std.specs.Prelude.{◌≡◌};
 ghost use Rattle.druid_base.specs.Numbers.{number_at};
 

@@ -3,11 +3,11 @@ use Rattle.std.proofs.Common.{◌≡◌, ◌≤◌, ◌<◌, [], List, filter, R
 use Rattle.std.specs.List.{Contains}
 use Rattle.std.specs.Result.{OnOk}
 use Rattle.druid_base.proofs.MemberLemmas.{Contains-map, Contains-nil}
-use Rattle.druid_segid.specs.Group.{Group, same_group}
+use Rattle.druid_segment_id.specs.Group.{Group, same_group}
 use Rattle.druid_timeline.specs.Edited.{HasOthers}
 use Rattle.druid_timeline.specs.Holding.{Held, AddsHeld}
 use Rattle.druid_timeline.proofs.HoldingLemmas.{from_filter}
-use Rattle.druid_chunks.proofs.ChunkLemmas.{same_group-exact}
+use Rattle.druid_timeline_chunks.proofs.ChunkLemmas.{same_group-exact}
 use Rattle.druid_base_tests.specs.Others.{IsAmong, AreAmong}
 
 -- a complete chunk has a member, of which something is held

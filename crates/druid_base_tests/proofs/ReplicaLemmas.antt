@@ -2,12 +2,12 @@
 use Rattle.std.proofs.Common.{◌≡◌, ◌≤◌, ◌↔◌, List, [], filter, refl, sym, ap, ◌∙◌, subst, inl, inr, arith}
 use Rattle.std.specs.List.{Contains}
 use Rattle.druid_base.proofs.MemberLemmas.{Contains-nil, Contains-map, Contains-map_back}
-use Rattle.druid_segid.specs.Group.{Group, same_group}
-use Rattle.druid_segid.specs.Identifier.{Identifier}
-use Rattle.druid_shard.specs.Described.{Described}
-use Rattle.druid_members.specs.Members.{Member, IsComplete, Adds, core_count}
-use Rattle.druid_members.proofs.SlotLemmas.{core_count-member, core_count-least}
-use Rattle.druid_chunks.proofs.ChunkLemmas.{same_group-exact, same_group-same}
+use Rattle.druid_segment_id.specs.Group.{Group, same_group}
+use Rattle.druid_segment_id.specs.Identifier.{Identifier}
+use Rattle.druid_segment_descriptor.specs.Described.{Described}
+use Rattle.druid_timeline_members.specs.Members.{Member, IsComplete, Adds, core_count}
+use Rattle.druid_timeline_members.proofs.SlotLemmas.{core_count-member, core_count-least}
+use Rattle.druid_timeline_chunks.proofs.ChunkLemmas.{same_group-exact, same_group-same}
 use Rattle.druid_timeline.specs.Holding.{Held, members_of, held_of, IsCompleteIn, AddsHeld, RemovesHeld, RemovesOneHeld}
 use Rattle.druid_timeline.proofs.HoldingLemmas.{in_filter, from_filter}
 

@@ -1,7 +1,7 @@
 -- Which chunks an edit may be compared with.
 use Rattle.std.specs.Prelude.{◌≢◌, List, Contains}
 use Rattle.druid_time.specs.Extent.{Share}
-use Rattle.druid_segid.specs.Group.{Group}
+use Rattle.druid_segment_id.specs.Group.{Group}
 use Rattle.druid_timeline.specs.Holding.{Held}
 
 -- where it is another group than g and shares an instant with it, it is in the list

@@ -1,8 +1,8 @@
 //! Chunks of which segments are added and removed, and those that overlap a segment's.
 use crate::printing::assert_rows;
 use crate::timeline::{descriptor, push_version};
-use druid_chunks::Chunks;
-use druid_shard::Descriptor;
+use druid_segment_descriptor::Descriptor;
+use druid_timeline_chunks::Chunks;
 use std::alloc::Global;
 use std::fmt::Write;
 use std::process::Abort;

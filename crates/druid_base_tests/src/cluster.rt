@@ -1,8 +1,8 @@
 use crate::printing::{assert_printed, assert_rows, owned, printed};
 use crate::script::{assert_answered, assert_run, assert_too_many, named, push_row};
-use druid_cluster::ReplayFault;
-use druid_shard::{Body, Reply};
-use druid_sync::{SyncFault, read_reply};
+use druid_replay::ReplayFault;
+use druid_segment_descriptor::{Body, Reply};
+use druid_sync_text::{SyncFault, read_reply};
 use std::alloc::Global;
 use std::process::Abort;
 

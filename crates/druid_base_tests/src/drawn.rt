@@ -4,8 +4,8 @@ ghost use Rattle.std.specs.Prelude.{◌<◌};
 
 use crate::rows::descriptor;
 use druid_inventory::Inventory;
-use druid_shard::{Change, Descriptor, Mark, NodeNo};
-use druid_world::{AskKind, Event, Sim, SimFault};
+use druid_laws_world::{AskKind, Event, Sim, SimFault};
+use druid_segment_descriptor::{Change, Descriptor, Mark, NodeNo};
 use std::alloc::Global;
 use std::process::Abort;
 

@@ -1,12 +1,12 @@
 //! How much one edit counts at most, by the contract: v1 and v2 on each of 100 days, and then v3 on the first day; and that a
 //! replica of v1 counts nothing.
 ghost use Rattle.std.specs.Prelude.{◌≡◌, ◌≤◌, ◌+◌, ◌*◌, List, length};
-ghost use Rattle.druid_segid.specs.Group.{Group, group_of};
+ghost use Rattle.druid_segment_id.specs.Group.{Group, group_of};
 ghost use Rattle.druid_base_tests.specs.Others.{AreAmong, IsAmong};
 
 use crate::rows::{interval, name};
-use druid_segid::{Meter, SegmentId, Version};
-use druid_shard::Descriptor;
+use druid_segment_descriptor::Descriptor;
+use druid_segment_id::{Meter, SegmentId, Version};
 use druid_time::{Instant, Interval};
 use druid_timeline::Timeline;
 use std::alloc::Global;

@@ -6,8 +6,8 @@ ghost use Rattle.std.specs.Prelude.{◌<◌};
 
 use crate::drawn::Draws;
 use crate::rows::name;
-use druid_segid::{GroupKey, Meter, SegmentId, Version};
-use druid_shard::{Descriptor, NodeNo};
+use druid_segment_descriptor::{Descriptor, NodeNo};
+use druid_segment_id::{GroupKey, Meter, SegmentId, Version};
 use druid_time::{Instant, Interval, IntervalSet};
 use druid_timeline::{Holding, Timeline, TimelineFault};
 use std::alloc::Global;

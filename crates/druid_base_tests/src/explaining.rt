@@ -1,6 +1,6 @@
 //! What ended a run before the end of its input.
 use crate::printing::{assert_rows, owned};
-use druid_cluster::{Stop, replay, replay_explained};
+use druid_replay::{Stop, replay, replay_explained};
 use std::alloc::Global;
 use std::io;
 use std::io::{BufReader, ErrorKind, Read, Write};

@@ -1,7 +1,7 @@
-//! What no contract says of the crates from instants to inventories, of `replay` and of `druid_world`: worked examples and
+//! What no contract says of the crates from instants to inventories, of `replay` and of `druid_laws_world`: worked examples and
 //! runs, printed texts, devices that fail, that calls succeed with ample memory, and drawn runs against a plain replay. A
 //! module has the name of the crate that it tests; `devices`, `explaining`, `following` and `joining` are of `replay`,
-//! `drawn` is of `druid_world`, `edits` and `edit_bound` are of `druid_timeline`, and `sweeps` of `druid_inventory`.
+//! `drawn` is of `druid_laws_world`, `edits` and `edit_bound` are of `druid_timeline`, and `sweeps` of `druid_inventory`.
 #![tactic(auto)]
 
 #[cfg(test)]

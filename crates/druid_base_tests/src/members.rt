@@ -1,6 +1,6 @@
 //! Members of a chunk.
 use crate::rows::member;
-use druid_members::Members;
+use druid_timeline_members::Members;
 use std::alloc::Global;
 use std::process::Abort;
 

@@ -1,10 +1,10 @@
 use crate::printing::{assert_reported, assert_rows};
 use crate::rows::{descriptor, name, parsed, push_partitions};
-use druid_changes::History;
 use druid_inventory::{Assembly as Replies, Inventory};
-use druid_pages::{Assembly, PageFault, page_of, pages_of};
-use druid_shard::{Ask, Body, Change, Descriptor, MAX_PAGE, Mark, Reply};
-use druid_sync::ask_target;
+use druid_segment_descriptor::{Ask, Body, Change, Descriptor, MAX_PAGE, Mark, Reply};
+use druid_sync_history::History;
+use druid_sync_pages::{Assembly, PageFault, page_of, pages_of};
+use druid_sync_text::ask_target;
 use std::alloc::Global;
 use std::process::Abort;
 

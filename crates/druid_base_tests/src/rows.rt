@@ -1,6 +1,6 @@
 //! Segments and changes as the rows of a table have them: a segment is the number of a partition of one chunk.
-use druid_segid::{Name, SegmentId, Version};
-use druid_shard::{Change, Descriptor, Mark};
+use druid_segment_descriptor::{Change, Descriptor, Mark};
+use druid_segment_id::{Name, SegmentId, Version};
 use druid_time::Interval;
 use std::alloc::Global;
 use std::fmt::{Debug, Write};

@@ -1,5 +1,5 @@
 //! Scripts of commands, as rows of lines and their answers.
-use druid_cluster::{ReplayFault, replay};
+use druid_replay::{ReplayFault, replay};
 use std::alloc::Global;
 use std::process::Abort;
 

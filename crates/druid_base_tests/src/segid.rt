@@ -1,6 +1,6 @@
 use crate::printing::{assert_printed, assert_reported, assert_rows, printed};
 use crate::rows::{name, parsed, segment};
-use druid_segid::{IdFault, Name, SegmentId, Version};
+use druid_segment_id::{IdFault, Name, SegmentId, Version};
 use std::alloc::Global;
 use std::process::Abort;
 

@@ -1,7 +1,7 @@
 use crate::printing::{assert_printed, assert_reported, assert_rows, owned, printed};
 use crate::rows::first_segments;
-use druid_shard::{Descriptor, Mark, Reply, ReplyFault};
-use druid_shard_text::{ShardFault, descriptor_value, read_descriptor};
+use druid_segment_descriptor::{Descriptor, Mark, Reply, ReplyFault};
+use druid_segment_text::{ShardFault, descriptor_value, read_descriptor};
 use serde_json::Value;
 use std::alloc::Global;
 use std::process::Abort;

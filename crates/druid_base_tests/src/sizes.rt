@@ -1,13 +1,13 @@
 //! That calls succeed where memory serves, at each size up to the limits, and what is one beyond them is refused.
 use crate::rows::{descriptor, first_segments, interval, name, numbered};
-use druid_changes::History;
 use druid_inventory::{ApplyFault, Inventory, Outcome};
-use druid_segid::{Meter, Name, SegmentId, Version};
-use druid_shard::{Ask, Body, Change, Descriptor, Mark, Reply, ReplyFault};
-use druid_sync::{SyncFault, read_reply, reply_text};
+use druid_laws_world::{AskKind, Event, Sim};
+use druid_segment_descriptor::{Ask, Body, Change, Descriptor, Mark, Reply, ReplyFault};
+use druid_segment_id::{Meter, Name, SegmentId, Version};
+use druid_sync_history::History;
+use druid_sync_text::{SyncFault, read_reply, reply_text};
 use druid_time::{Instant, Interval, IntervalSet};
 use druid_timeline::Timeline;
-use druid_world::{AskKind, Event, Sim};
 use std::alloc::Global;
 use std::process::Abort;
 

@@ -4,8 +4,8 @@ use crate::drawn::Draws;
 use crate::edits::{Served, Table, draw_served};
 use crate::rows::name;
 use druid_inventory::{Inventory, Outcome};
-use druid_segid::Meter;
-use druid_shard::{Change, Descriptor, Mark, NodeNo, Reply};
+use druid_segment_descriptor::{Change, Descriptor, Mark, NodeNo, Reply};
+use druid_segment_id::Meter;
 use std::alloc::Global;
 use std::process::Abort;
 

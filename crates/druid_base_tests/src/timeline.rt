@@ -1,7 +1,7 @@
 use crate::printing::{assert_printed, assert_reported, assert_rows, printed};
 use crate::rows::{interval, name, parsed, segment};
-use druid_segid::{GroupKey, Meter};
-use druid_shard::Descriptor;
+use druid_segment_descriptor::Descriptor;
+use druid_segment_id::{GroupKey, Meter};
 use druid_time::IntervalSet;
 use druid_timeline::{Piece, Timeline, TimelineFault};
 use std::alloc::Global;

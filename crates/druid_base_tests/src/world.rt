@@ -1,7 +1,7 @@
 use crate::printing::{assert_printed, assert_reported, owned, printed};
 use crate::rows::{change, mark_reported, parsed, push_partitions};
 use druid_inventory::Inventory;
-use druid_world::{AskKind, Event, Sim, SimFault};
+use druid_laws_world::{AskKind, Event, Sim, SimFault};
 use std::alloc::Global;
 use std::process::Abort;
 

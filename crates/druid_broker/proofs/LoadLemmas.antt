@@ -4,9 +4,9 @@ use Rattle.std.proofs.lemmas.Bool.{le-leb}
 use Rattle.std.proofs.lemmas.Bool.Decides.{leb_tells}
 use Rattle.std.proofs.lemmas.List.{drop_more}
 use Rattle.std.proofs.lemmas.Option.{slice_get_past, slice_get_within, get_or_from_slice_get}
-use Rattle.druid_shard.specs.Mark.{Point}
-use Rattle.druid_shard.specs.declared.change.Ask.{Ask}
-use Rattle.druid_shard.specs.declared.reply.Body.{Body}
+use Rattle.druid_segment_descriptor.specs.Mark.{Point}
+use Rattle.druid_segment_descriptor.specs.declared.change.Ask.{Ask}
+use Rattle.druid_segment_descriptor.specs.declared.reply.Body.{Body}
 use Rattle.druid_inventory.specs.Entry.{Entry, IsUnsynced, IsAnswerOf, answer_of}
 use Rattle.druid_broker.specs.Routes.{is_loaded}
 

@@ -5,8 +5,8 @@ use Rattle.std.proofs.lemmas.Option.{slice_get_within}
 use Rattle.druid_inventory.specs.Entry.{Entry}
 use Rattle.druid_query.specs.Query.{Query}
 use Rattle.druid_query.proofs.AskedLemmas.{all_of_each}
-use Rattle.druid_scatter.specs.Plan.{Pair, IsReplica, AreReplicas, IsPlanOf}
-use Rattle.druid_scatter.specs.Rounds.{AreLinked}
+use Rattle.druid_broker_scatter.specs.Plan.{Pair, IsReplica, AreReplicas, IsPlanOf}
+use Rattle.druid_broker_scatter.specs.Rounds.{AreLinked}
 
 module _ (inventory : List Entry) (count : ℕ) (few : length inventory ≤ count) where
   linked : (p : Pair) (node : ℕ) → IsReplica inventory p.asked.0 node → node < count

@@ -3,10 +3,10 @@ use Rattle.std.proofs.Common.{◌≡◌, ◌≢◌, ◌⊎◌, ℕ, Bool, true, 
 use mathlib.Core.List.{IsPrefix}
 use Rattle.druid_inventory.specs.Entry.{Entry}
 use Rattle.druid_link.specs.Links.{Came}
-use Rattle.druid_message.specs.Requests.{RequestValue, parameters_of}
-use Rattle.druid_wire.specs.Served.{Tells, Gets, Allows, IsSent, IsServed, IsCutShort, FailsToServe, IsOutOfMemory}
-use Rattle.druid_message.specs.declared.fault.WireFault.{WireFault}
-use Rattle.druid_wire.proofs.ServeLemmas.{WasRead, served, unsent}
+use Rattle.druid_http_message.specs.Requests.{RequestValue, parameters_of}
+use Rattle.druid_http_wire.specs.Served.{Tells, Gets, Allows, IsSent, IsServed, IsCutShort, FailsToServe, IsOutOfMemory}
+use Rattle.druid_http_message.specs.declared.fault.WireFault.{WireFault}
+use Rattle.druid_http_wire.proofs.ServeLemmas.{WasRead, served, unsent}
 use Rattle.druid_query.specs.Query.{Query}
 use Rattle.druid_base.specs.Json.{ReadsAs}
 use Rattle.druid_query.specs.Read.{IsReadOf, query_at}
@@ -14,8 +14,8 @@ use Rattle.druid_query.specs.Refusal.{Refusal}
 use Rattle.druid_query.specs.Refused.{refusal_text}
 use Rattle.druid_query.specs.declared.fault.QueryFault.{QueryFault}
 use Rattle.druid_query.specs.declared.fault.QueryFault.TheVariants.{NotJson, UnknownType, Field, BadInterval, LimitPassed, DoubledName, Memory}
-use Rattle.druid_published.specs.Fold.{Published, fold_of}
-use Rattle.druid_published.proofs.Beginnings.{prefix_self}
+use Rattle.druid_inventory_views.specs.Fold.{Published, fold_of}
+use Rattle.druid_inventory_views.proofs.Beginnings.{prefix_self}
 use Rattle.serde_json.specs.Data.{Data}
 use Rattle.druid_broker.specs.Queries.{NamesField}
 use Rattle.druid_broker.specs.Routes.{Route, health, query, sources, load_status, entry, nowhere, OrOutOfMemory, AnswersSources, AnswersNumber, AnswersEntry, AnswersPost, AnswersAt, loaded_text, is_loaded}
@@ -23,8 +23,8 @@ use Rattle.druid_broker.specs.Questions.{Asks, RefusesBody, Settles, Answers}
 use Rattle.druid_broker.specs.declared.question.Question.{Question}
 use Rattle.druid_broker.specs.declared.question.Question.TheVariants as asks
 use Rattle.druid_base.specs.Numbers.{number_at}
-use Rattle.druid_shard.specs.declared.change.Ask.{Ask}
-use Rattle.druid_sync.specs.Asks.{ask_at}
+use Rattle.druid_segment_descriptor.specs.declared.change.Ask.{Ask}
+use Rattle.druid_sync_text.specs.Asks.{ask_at}
 use Rattle.std.proofs.lemmas.Bool.{false≢true}
 use Rattle.druid_broker.specs.Views.{TakesInventory, AnswersUnread, RespondsAt, RespondsBy}
 

@@ -10,10 +10,10 @@ use Rattle.druid_query.specs.declared.fault.QueryFault.TheVariants.{Field, Memor
 use Rattle.druid_partial.specs.Groups.{Group}
 use Rattle.druid_partial_text.specs.Written.{result_text}
 use Rattle.druid_partial_text.specs.Answers.{shortfall_text}
-use Rattle.druid_scatter.specs.Plan.{Pair, IsPlanOf}
-use Rattle.druid_scatter.specs.Gathered.{Exchange, AreMade, AreAsked, IsGathered}
+use Rattle.druid_broker_scatter.specs.Plan.{Pair, IsPlanOf}
+use Rattle.druid_broker_scatter.specs.Gathered.{Exchange, AreMade, AreAsked, IsGathered}
 use Rattle.druid_link.specs.Links.{Came}
-use Rattle.druid_wire.specs.Served.{Tells}
+use Rattle.druid_http_wire.specs.Served.{Tells}
 
 -- the rows are whole, or what is missing is listed beside them
 abbrev pub TellsRows : Query → List Asked → List Group → ℕ → List ℕ → Type 0

@@ -1,7 +1,7 @@
 -- What a request asks of an inventory, and what one answers. Only proofs and private functions use this.
 use Rattle.std.specs.Prelude.{◌≡◌, ◌≢◌, ◌⊎◌, ℕ, true, List, codes, bytes_eq, Some, Ok, Err}
 use Rattle.druid_base.specs.Numbers.{number_at}
-use Rattle.druid_sync.specs.Asks.{ask_at}
+use Rattle.druid_sync_text.specs.Asks.{ask_at}
 use Rattle.druid_inventory.specs.Entry.{Entry}
 use Rattle.druid_query.specs.Query.{Query}
 use Rattle.druid_query.specs.Read.{IsReadOf}
@@ -9,8 +9,8 @@ use Rattle.druid_query.specs.Refused.{refusal_text}
 use Rattle.druid_query.specs.declared.fault.QueryFault.{QueryFault}
 use Rattle.druid_query.specs.declared.fault.QueryFault.TheVariants.{Memory}
 use Rattle.druid_link.specs.Links.{Came}
-use Rattle.druid_message.specs.Requests.{RequestValue, parameters_of}
-use Rattle.druid_wire.specs.Served.{Tells, Allows, IsOutOfMemory}
+use Rattle.druid_http_message.specs.Requests.{RequestValue, parameters_of}
+use Rattle.druid_http_wire.specs.Served.{Tells, Allows, IsOutOfMemory}
 use Rattle.druid_broker.specs.Queries.{NamesField}
 use Rattle.druid_broker.specs.Routes.{Route, query, sources, load_status, entry, OrOutOfMemory, AnswersSources, AnswersNode, AnswersPost, TellsAt, loaded_text, is_loaded}
 use Rattle.druid_broker.specs.Views.{TakesInventory}

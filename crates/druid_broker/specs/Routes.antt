@@ -8,15 +8,15 @@ use Rattle.serde_json.specs.Data.{Data, array, string}
 use Rattle.serde_json.specs.View.{items_of}
 use Rattle.serde_json.specs.Written.{compact_text}
 use Rattle.druid_base.specs.Numbers.{number_at}
-use Rattle.druid_shard.specs.declared.change.Ask.{Ask}
-use Rattle.druid_shard.specs.declared.reply.Body.{Body}
-use Rattle.druid_sync.specs.Asks.{ask_at}
-use Rattle.druid_sync.specs.Written.{reply_text}
+use Rattle.druid_segment_descriptor.specs.declared.change.Ask.{Ask}
+use Rattle.druid_segment_descriptor.specs.declared.reply.Body.{Body}
+use Rattle.druid_sync_text.specs.Asks.{ask_at}
+use Rattle.druid_sync_text.specs.Written.{reply_text}
 use Rattle.druid_inventory.specs.Entry.{Entry, IsUnsynced, IsAnswerOf}
 use Rattle.druid_inventory.specs.Sources.{HasSource}
 use Rattle.druid_link.specs.Links.{Came}
-use Rattle.druid_message.specs.Requests.{RequestValue, parameters_of}
-use Rattle.druid_wire.specs.Served.{Tells, Gets, IsOutOfMemory}
+use Rattle.druid_http_message.specs.Requests.{RequestValue, parameters_of}
+use Rattle.druid_http_wire.specs.Served.{Tells, Gets, IsOutOfMemory}
 use Rattle.druid_broker.specs.Queries.{AnswersQuery, WantsMemory}
 
 -- where requests go

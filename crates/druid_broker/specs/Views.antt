@@ -2,14 +2,14 @@
 use Rattle.std.specs.Prelude.{◌≡◌, ◌⊎◌, ℕ, true, List, codes, bytes_eq, IsSome, Ok}
 use mathlib.Core.List.{IsPrefix}
 use Rattle.druid_base.specs.Numbers.{number_at}
-use Rattle.druid_sync.specs.Asks.{ask_at}
+use Rattle.druid_sync_text.specs.Asks.{ask_at}
 use Rattle.druid_inventory.specs.Entry.{Entry}
-use Rattle.druid_published.specs.Fold.{Published, fold_of}
+use Rattle.druid_inventory_views.specs.Fold.{Published, fold_of}
 use Rattle.druid_query.specs.Query.{Query}
 use Rattle.druid_query.specs.Read.{IsReadOf}
 use Rattle.druid_link.specs.Links.{Came}
-use Rattle.druid_message.specs.Requests.{RequestValue, path_of, parameters_of}
-use Rattle.druid_wire.specs.Served.{Tells, IsOutOfMemory}
+use Rattle.druid_http_message.specs.Requests.{RequestValue, path_of, parameters_of}
+use Rattle.druid_http_wire.specs.Served.{Tells, IsOutOfMemory}
 use Rattle.druid_broker.specs.Routes.{Route, health, query, sources, load_status, entry, nowhere, route_of, AnswersAt}
 
 -- an answer takes the inventory where a query is posted that reads as one, and where what is known is got: of all nodes, or of

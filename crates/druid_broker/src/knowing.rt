@@ -2,16 +2,16 @@
 ghost use Rattle.std.specs.Prelude.{◌≡◌, ◌++◌, [], IfOk, OnOk, codes, string_bytes};
 ghost use Rattle.json.specs.Print.{print};
 ghost use Rattle.serde_json.specs.Written.{compact_text};
-ghost use Rattle.druid_sync.specs.Written.{reply_text};
-ghost use Rattle.druid_wire.specs.Served.{Tells};
+ghost use Rattle.druid_sync_text.specs.Written.{reply_text};
+ghost use Rattle.druid_http_wire.specs.Served.{Tells};
 ghost use Rattle.druid_partial_text.specs.Tokens.{tokens_of};
 ghost use Rattle.druid_broker.specs.Routes.{names_data, AnswersSources, is_loaded, loaded_text, OrOutOfMemory, AnswersNode};
 
+use druid_http_wire::Response;
 use druid_inventory::{Inventory, InventoryFault};
-use druid_segid::Name;
-use druid_shard::{Ask, NodeNo, Reply};
-use druid_sync::reply_text;
-use druid_wire::Response;
+use druid_segment_descriptor::{Ask, NodeNo, Reply};
+use druid_segment_id::Name;
+use druid_sync_text::reply_text;
 use http::StatusCode;
 use json::Writer;
 use std::alloc::{AllocError, Global};

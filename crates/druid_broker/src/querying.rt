@@ -3,18 +3,18 @@ ghost use Rattle.std.specs.Prelude.{◌≡◌, ◌≢◌, ◌↔◌, ◌≤◌, 
 ghost use Rattle.druid_partial.specs.Partials.{IsPartialFor};
 ghost use Rattle.druid_query.specs.Read.{IsReadOf};
 ghost use Rattle.druid_query.specs.Refused.{refusal_text};
-ghost use Rattle.druid_scatter.specs.Gathered.{Exchange, AreMade, AreAsked, IsGathered};
-ghost use Rattle.druid_scatter.specs.Rounds.{AreLinked};
-ghost use Rattle.druid_wire.specs.Served.{Tells, IsOutOfMemory};
+ghost use Rattle.druid_broker_scatter.specs.Gathered.{Exchange, AreMade, AreAsked, IsGathered};
+ghost use Rattle.druid_broker_scatter.specs.Rounds.{AreLinked};
+ghost use Rattle.druid_http_wire.specs.Served.{Tells, IsOutOfMemory};
 ghost use Rattle.druid_broker.specs.Queries.{TellsRows, AnswersRows, AsksRows, NamesField};
 ghost use Rattle.druid_broker.specs.Routes.{AnswersPost};
 
+use druid_broker_scatter::{Answer, GatherFault, Pick, Plan, gather, plan};
+use druid_http_wire::Response;
 use druid_inventory::Inventory;
 use druid_link::Link;
 use druid_partial_text::{result_text, shortfall_text};
 use druid_query::{Query, QueryFault};
-use druid_scatter::{Answer, GatherFault, Pick, Plan, gather, plan};
-use druid_wire::Response;
 use http::StatusCode;
 use std::alloc::{AllocError, Global};
 use std::thread::Threads;

@@ -1,7 +1,7 @@
 //! What a request asks of a broker. No inventory is at hand where that is read.
 ghost use Rattle.std.specs.Prelude.{◌≡◌, ◌⊎◌, true, false, IfOk, IfErr, codes, bytes_eq};
-ghost use Rattle.druid_message.specs.Requests.{path_of};
-ghost use Rattle.druid_wire.specs.Served.{Tells};
+ghost use Rattle.druid_http_message.specs.Requests.{path_of};
+ghost use Rattle.druid_http_wire.specs.Served.{Tells};
 ghost use Rattle.druid_broker.specs.Borrowed.{borrowed_route};
 ghost use Rattle.druid_broker.specs.Routes.{entry, query, route_of};
 ghost use Rattle.druid_broker.specs.Questions.{Asks, Settles};
@@ -10,13 +10,13 @@ use crate::knowing::unknown_node;
 use crate::querying::refuse_query;
 use crate::routes::{Route, Routes};
 use druid_base::number_of;
-use druid_context::timeout_of;
-use druid_message::Request;
+use druid_http_message::Request;
+use druid_http_wire::Response;
 use druid_query::Query;
+use druid_query_context::timeout_of;
 use druid_query_text::read_query;
-use druid_shard::Ask;
-use druid_sync::read_ask;
-use druid_wire::Response;
+use druid_segment_descriptor::Ask;
+use druid_sync_text::read_ask;
 use std::alloc::Global;
 
 /// A question to an inventory.

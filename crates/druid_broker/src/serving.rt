@@ -1,17 +1,17 @@
 //! Requests, served.
 ghost use Rattle.std.specs.Prelude.{◌≡◌, ◌≤◌, length, IfOk, IfErr};
 ghost use mathlib.Core.List.{IsPrefix};
-ghost use Rattle.druid_wire.specs.Served.{IsServed, FailsToServe};
+ghost use Rattle.druid_http_wire.specs.Served.{IsServed, FailsToServe};
 ghost use Rattle.druid_broker.specs.Views.{RespondsBy};
 
 use crate::querying::Turn;
 use crate::responding::respond;
 use crate::routes::Routes;
+use druid_broker_scatter::Pick;
+use druid_http_message::WireFault;
+use druid_http_wire::{read_request, refuse_request, send_response};
+use druid_inventory_views::{Publication, View};
 use druid_link::Link;
-use druid_message::WireFault;
-use druid_published::{Publication, View};
-use druid_scatter::Pick;
-use druid_wire::{read_request, refuse_request, send_response};
 use std::alloc::Global;
 use std::io::{BufRead, Write};
 use std::sync::Wait;

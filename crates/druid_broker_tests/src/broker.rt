@@ -6,7 +6,7 @@ use crate::cluster::{
     written,
 };
 use crate::printing::{assert_holds, assert_reported, halves, printed, replaced};
-use druid_published::Publication;
+use druid_inventory_views::Publication;
 use std::alloc::Global;
 use std::marker::Brand;
 use std::process::Abort;

@@ -3,18 +3,18 @@ ghost use Rattle.std.specs.Prelude.{◌≡◌, ◌⊎◌, ◌≤◌, IsTrue, len
 ghost use Rattle.druid_link.specs.Links.{IsLinkFault, came_of, faults_after};
 
 use druid_broker::{Routes, serve_one};
-use druid_follow::sync_turn;
+use druid_broker_follow::sync_turn;
+use druid_broker_scatter::Rotate;
+use druid_http_message::WireFault;
+use druid_http_wire::response_of;
 use druid_inventory::{Inventory, MAX_NODES};
+use druid_inventory_views::{Opened, Publication, Publisher, View, open};
 use druid_link::{Link, MAX_EXCHANGE};
-use druid_message::WireFault;
 use druid_node::{DataNode, Incarnation, NodeState};
-use druid_published::{Opened, Publication, Publisher, View, open};
-use druid_rows::{Row, Schema, Segment};
-use druid_scatter::Rotate;
-use druid_segid::{Name, SegmentId, Version};
-use druid_shard::{Descriptor, Mark, NodeNo};
+use druid_segment_descriptor::{Descriptor, Mark, NodeNo};
+use druid_segment_id::{Name, SegmentId, Version};
+use druid_segment_rows::{Row, Schema, Segment};
 use druid_time::{Instant, Interval};
-use druid_wire::response_of;
 use std::alloc::Global;
 use std::fmt::Debug;
 use std::process::Abort;

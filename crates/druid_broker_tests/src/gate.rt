@@ -8,10 +8,10 @@ use crate::cluster::{
 };
 use crate::printing::assert_reported;
 use crate::scatter::{count, gathered};
+use druid_http_message::WireFault;
 use druid_inventory::Inventory;
+use druid_inventory_views::{Publication, Publisher, View};
 use druid_link::Link;
-use druid_message::WireFault;
-use druid_published::{Publication, Publisher, View};
 use std::alloc::Global;
 use std::fmt::Write;
 use std::marker::Brand;

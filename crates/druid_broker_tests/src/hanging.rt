@@ -8,12 +8,12 @@ use crate::cluster::{
 };
 use crate::printing::{assert_holds, printed};
 use druid_broker::{Routes, serve_one};
-use druid_health::{Asker, Counts, Health, MonitoredLink, monotonic_millis};
+use druid_broker_scatter::AilingLast;
+use druid_inventory_views::{Publication, View};
 use druid_link::{Link, TcpLink};
+use druid_link_health::{Asker, Counts, Health, MonitoredLink, monotonic_millis};
 use druid_node::DataNode;
-use druid_published::{Publication, View};
-use druid_scatter::AilingLast;
-use druid_shard::Mark;
+use druid_segment_descriptor::Mark;
 use std::alloc::Global;
 use std::io::BufReader;
 use std::marker::Brand;

@@ -6,8 +6,8 @@ use crate::cluster::{Cluster, Handle, Server, Setup, followed, link_at, posted, 
 use crate::follow::whole_reply;
 use crate::printing::{all_replaced, assert_reported, halves};
 use crate::scatter::{PIECE, gather_text};
+use druid_inventory_views::Publication;
 use druid_link::MemoryLink;
-use druid_published::Publication;
 use std::alloc::Global;
 use std::marker::Brand;
 use std::process::Abort;

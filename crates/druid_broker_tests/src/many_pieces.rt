@@ -2,10 +2,10 @@
 use crate::cluster::{Handle, inventory};
 use crate::follow::link;
 use crate::scatter::{count, gathered, piece_text};
+use druid_broker_scatter::{Answer, plan};
 use druid_inventory::Inventory;
-use druid_scatter::{Answer, plan};
-use druid_segid::{Name, SegmentId, Version};
-use druid_shard::{Descriptor, Mark, Reply};
+use druid_segment_descriptor::{Descriptor, Mark, Reply};
+use druid_segment_id::{Name, SegmentId, Version};
 use druid_time::Interval;
 use std::alloc::Global;
 use std::process::Abort;

@@ -3,10 +3,10 @@ ghost use Rattle.std.specs.Prelude.{◌≡◌, ◌≤◌};
 
 use crate::follow::{link, mark_text, one_node};
 use crate::printing::{assert_reported, printed};
-use druid_follow::fetch;
+use druid_broker_follow::fetch;
 use druid_inventory::Inventory;
-use druid_published::{Opened, Publication, Publisher, View, open};
-use druid_shard::Reply;
+use druid_inventory_views::{Opened, Publication, Publisher, View, open};
+use druid_segment_descriptor::Reply;
 use std::alloc::Global;
 use std::marker::Brand;
 use std::process::Abort;

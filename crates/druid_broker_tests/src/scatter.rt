@@ -1,6 +1,6 @@
 //! In which order replicas are asked, and how often.
 ghost use Rattle.std.specs.Prelude.{◌≡◌, ◌≤◌, length};
-ghost use Rattle.druid_scatter.specs.Rounds.{AreLinked};
+ghost use Rattle.druid_broker_scatter.specs.Rounds.{AreLinked};
 
 use crate::broker::{counted, query};
 use crate::cluster::{
@@ -10,14 +10,14 @@ use crate::cluster::{
 use crate::follow::link;
 use crate::printing::{assert_reported, halves};
 use crate::published::SNAPSHOT;
-use druid_follow::fetch_entry;
+use druid_broker_follow::fetch_entry;
+use druid_broker_scatter::{Answer, Pick, Plan, Rotate, gather, plan};
 use druid_inventory::Inventory;
+use druid_inventory_views::Publication;
 use druid_link::{Link, MemoryLink};
-use druid_published::Publication;
 use druid_query::{Query, SegmentSlice};
 use druid_query_text::read_query;
-use druid_scatter::{Answer, Pick, Plan, Rotate, gather, plan};
-use druid_shard::NodeNo;
+use druid_segment_descriptor::NodeNo;
 use std::alloc::Global;
 use std::marker::Brand;
 use std::process::Abort;

@@ -3,9 +3,9 @@ use Rattle.std.proofs.Common.{◌≡◌, ℕ, ◌+◌, ◌≤◌, true, List, []
 use Rattle.std.proofs.lemmas.List.Elements.{All-nil, All-cons}
 use Rattle.druid_folder.specs.Folder.{Content, max_file}
 use Rattle.druid_folder.proofs.ReadPart.{read_part-whole}
-use Rattle.druid_store.specs.Event.{Event, did_write}
-use Rattle.druid_store.specs.Honest.{HonestIn, AreKept, is_kept}
-use Rattle.druid_store.specs.Model.{AreRight}
+use Rattle.druid_folder_store.specs.Event.{Event, did_write}
+use Rattle.druid_folder_store.specs.Honest.{HonestIn, AreKept, is_kept}
+use Rattle.druid_folder_store.specs.Model.{AreRight}
 use Rattle.druid_device_tests.specs.TwoFolders.{file_name, keeping, Keeps}
 
 -- the read is right

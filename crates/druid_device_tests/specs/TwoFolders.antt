@@ -1,7 +1,7 @@
 -- A file that a folder keeps.
 use Rattle.std.specs.Prelude.{◌≡◌, ℕ, true, List, ◌∷◌, Some, codes}
 use Rattle.druid_folder.specs.Folder.{Content}
-use Rattle.druid_store.specs.Event.{Event, did_read, did_write, did_sync}
+use Rattle.druid_folder_store.specs.Event.{Event, did_read, did_write, did_sync}
 
 -- the name of the file
 abbrev pub file_name : List ℕ

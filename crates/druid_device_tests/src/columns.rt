@@ -1,8 +1,8 @@
 //! Segment files by columns, beside the same segments by rows: each is spelled by another program or by plain loops.
 use crate::kinds::KINDS;
 use crate::segfile::{bytes_of, extend, letters, read, wide};
-use druid_rows::Segment;
-use druid_segfile::{FileFault, write_columns, write_segment};
+use druid_segment_file::{FileFault, write_columns, write_segment};
+use druid_segment_rows::Segment;
 use std::alloc::Global;
 use std::io::{Error, ErrorKind, Result as IoResult, Write};
 use std::process::Abort;

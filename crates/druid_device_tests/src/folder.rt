@@ -1,7 +1,7 @@
 //! Folders of many sizes: with ample memory each call answers.
 use crate::wire::patterned;
 use druid_folder::Folder;
-use druid_store::MemoryFolder;
+use druid_folder_store::MemoryFolder;
 use std::alloc::Global;
 use std::process::Abort;
 

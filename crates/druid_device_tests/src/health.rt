@@ -1,8 +1,8 @@
 //! Which nodes failed lately, as it is noted and seen.
 use crate::link::REQUEST;
-use druid_health::{Asker, Ceiling, Counts, Health, MonitoredLink, Oversize, Snapshot};
+use druid_http_message::WireFault;
 use druid_link::{Link, MemoryLink};
-use druid_message::WireFault;
+use druid_link_health::{Asker, Ceiling, Counts, Health, MonitoredLink, Oversize, Snapshot};
 use std::alloc::Global;
 use std::process::Abort;
 use std::sync::Arc;

@@ -1,8 +1,8 @@
 //! The number of a node's incarnation.
 use crate::store::answers;
 use druid_folder::{Folder, StoreFault};
-use druid_incarnation::next_incarnation;
-use druid_store::MemoryFolder;
+use druid_folder_incarnation::next_incarnation;
+use druid_folder_store::MemoryFolder;
 use std::alloc::Global;
 use std::process::Abort;
 

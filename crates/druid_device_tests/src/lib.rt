@@ -1,8 +1,8 @@
 //! What no contract says of segment files, of the folders that keep them, of messages and of links: worked examples,
 //! devices and calls of the system that fail, printed texts, and that calls succeed with ample memory. `folder`,
 //! `health`, `incarnation`, `link`, `message`, `rows`, `segfile`, `store`, `stream` and `wire` have the names of the crates that they
-//! test; `columns` is of `druid_segfile`, `serving` of `druid_wire`, `tcp_links` and `tcp_double` of `druid_link`, and
-//! `store_double` and `two_folders` of `druid_store`.
+//! test; `columns` is of `druid_segment_file`, `serving` of `druid_http_wire`, `tcp_links` and `tcp_double` of `druid_link`, and
+//! `store_double` and `two_folders` of `druid_folder_store`.
 #![tactic(auto)]
 
 #[cfg(test)]

@@ -2,8 +2,8 @@
 use crate::printing::{beside, printed};
 use crate::table::assert_reported;
 use crate::wire::patterned;
-use druid_message::Request;
-use druid_wire::{read_request, request_bytes};
+use druid_http_message::Request;
+use druid_http_wire::{read_request, request_bytes};
 use http::Method;
 use std::alloc::Global;
 use std::process::Abort;

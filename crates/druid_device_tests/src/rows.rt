@@ -1,7 +1,7 @@
 use crate::printing::assert_prints;
-use druid_rows::{Filter, Row, RowFault, Schema, Segment, SegmentBuilder, matches};
-use druid_segid::{Name, SegmentId, Version};
-use druid_shard::Descriptor;
+use druid_segment_descriptor::Descriptor;
+use druid_segment_id::{Name, SegmentId, Version};
+use druid_segment_rows::{Filter, Row, RowFault, Schema, Segment, SegmentBuilder, matches};
 use druid_time::{Instant, Interval};
 use std::alloc::Global;
 use std::fmt::Debug;

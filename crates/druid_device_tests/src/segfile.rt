@@ -1,7 +1,7 @@
 use crate::kinds::KINDS;
 use crate::printing::assert_prints;
-use druid_rows::Segment;
-use druid_segfile::{FileFault, read_segment, write_segment};
+use druid_segment_file::{FileFault, read_segment, write_segment};
+use druid_segment_rows::Segment;
 use std::alloc::Global;
 use std::io::{Error, ErrorKind, Read, Result as IoResult, Write};
 use std::process::Abort;

@@ -2,8 +2,8 @@
 use crate::printing::{beside, printed, text_of};
 use crate::table::{Table, assert_reported, assert_row, assert_rows, halves, is_reported};
 use crate::wire::spelled;
-use druid_message::{Request, WireFault};
-use druid_wire::{read_request, refuse_request};
+use druid_http_message::{Request, WireFault};
+use druid_http_wire::{read_request, refuse_request};
 use std::alloc::Global;
 use std::process::Abort;
 

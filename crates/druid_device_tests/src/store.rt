@@ -1,8 +1,8 @@
 use crate::printing::{assert_prints, printed};
 use crate::wire::patterned;
 use druid_folder::{Folder, StoreFault, is_file_name};
-use druid_incarnation::next_incarnation;
-use druid_store::{DiskFolder, MemoryFolder};
+use druid_folder_incarnation::next_incarnation;
+use druid_folder_store::{DiskFolder, MemoryFolder};
 use std::alloc::Global;
 use std::marker::Brand;
 use std::path::PathBuf;

@@ -1,5 +1,5 @@
 use druid_folder::{Folder, StoreFault};
-use druid_store::DiskFolder;
+use druid_folder_store::DiskFolder;
 use std::alloc::{Allocator, Global};
 use std::cell::{Cell, RefCell};
 use std::fs::{Metadata, OpenFile, OpenOptions};

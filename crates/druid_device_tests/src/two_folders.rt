@@ -1,13 +1,13 @@
 //! Two folders on disks, each on a device of its own: each keeps its file, and both are honest.
 ghost use Rattle.std.specs.Prelude.{◌≡◌, ◌≤◌, [], true, length};
 ghost use Rattle.druid_folder.specs.Folder.{max_file};
-ghost use Rattle.druid_store.specs.Disk.{calls_made};
-ghost use Rattle.druid_store.specs.Honest.{HonestIn};
+ghost use Rattle.druid_folder_store.specs.Disk.{calls_made};
+ghost use Rattle.druid_folder_store.specs.Honest.{HonestIn};
 ghost use Rattle.druid_device_tests.specs.TwoFolders.{keeping, Keeps};
 
 use crate::store::path_for;
 use druid_folder::Folder;
-use druid_store::{Device, DiskFolder, honest_model};
+use druid_folder_store::{Device, DiskFolder, honest_model};
 use std::alloc::Global;
 use std::fs;
 use std::marker::Brand;

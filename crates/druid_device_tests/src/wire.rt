@@ -1,8 +1,8 @@
 //! Messages, read and written.
 use crate::printing::{beside, printed, text_of};
 use crate::table::{Table, assert_reported, assert_row, assert_rows, halves, is_reported};
-use druid_message::{Request, WireFault};
-use druid_wire::{
+use druid_http_message::{Request, WireFault};
+use druid_http_wire::{
     Response, read_request, read_response, request_bytes, response_of, send_response,
     write_request, write_response,
 };

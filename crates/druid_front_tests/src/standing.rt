@@ -1,10 +1,10 @@
 //! A front over a socket of this machine, and a worker that it feeds.
 ghost use Rattle.std.specs.Prelude.{◌≡◌, [], IfSome};
-ghost use Rattle.druid_front.specs.Answers.{IsAnswer};
+ghost use Rattle.druid_serve_front.specs.Answers.{IsAnswer};
 
-use druid_front::{Front, Job, Jobs, Place, answer_jobs, open};
-use druid_message::{Request, WireFault};
-use druid_wire::{Response, read_request, refuse_request, send_response};
+use druid_http_message::{Request, WireFault};
+use druid_http_wire::{Response, read_request, refuse_request, send_response};
+use druid_serve_front::{Front, Job, Jobs, Place, answer_jobs, open};
 use http::StatusCode;
 use std::alloc::Global;
 use std::net::{Net, TcpListener, TcpStream};
@@ -38,7 +38,7 @@ fn response_to(alloc: Global, request: &Request) -> Option<Response> {
 }
 
 // Writes the answer to a request that was read, or was not.
-#[tactic(auto, using(druid_front::proofs::AnswerLemmas::sent_is_answer))]
+#[tactic(auto, using(druid_serve_front::proofs::AnswerLemmas::sent_is_answer))]
 fn write_answer(alloc: Global, read: Result<Request, WireFault>, bytes: &mut Vec<u8>) -> Option<u16>
     requires { bytes.old.items ≡ [] }
     ensures { IfSome result (λ status. IsAnswer status bytes.new.items) }

@@ -5,12 +5,12 @@ use Rattle.std.specs.BTreeMap.{BTreeMap}
 use Rattle.std.proofs.lemmas.List.{take_all, take_more, take-append-drop, get_or-take, length-take-le}
 use Rattle.std.proofs.lemmas.List.Elements.{Contains-append_left, Contains-push, Contains-push_cases}
 use Rattle.std.proofs.lemmas.Bool.{false≢true}
-use Rattle.druid_segid.specs.Identifier.{Identifier, identifier_text}
-use Rattle.druid_shard.specs.Described.{Described}
-use Rattle.druid_shard.specs.Replay.{IsSegmentSet, StandsAt, BelongsAt}
-use Rattle.druid_shard.specs.declared.change.Change.TheVariants.{Drop}
+use Rattle.druid_segment_id.specs.Identifier.{Identifier, identifier_text}
+use Rattle.druid_segment_descriptor.specs.Described.{Described}
+use Rattle.druid_segment_descriptor.specs.Replay.{IsSegmentSet, StandsAt, BelongsAt}
+use Rattle.druid_segment_descriptor.specs.declared.change.Change.TheVariants.{Drop}
 use Rattle.druid_base.proofs.MemberLemmas.{Contains-nil}
-use Rattle.druid_shard.proofs.SortedLemmas.{AreSorted-own}
+use Rattle.druid_segment_descriptor.proofs.SortedLemmas.{AreSorted-own}
 use Rattle.druid_timeline.specs.Holding.{Serving}
 use Rattle.druid_inventory.specs.Entry.{Entry}
 use Rattle.druid_inventory.specs.Timelines.{kept, AreTimelines, AddsSegment, RemovesSegment, TakesSegment, TakesChange, ServesThese, ServesWith}

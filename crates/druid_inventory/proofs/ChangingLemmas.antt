@@ -4,7 +4,7 @@ use Rattle.std.specs.BTreeMap.{BTreeMap, UpdatesBy, is_at}
 use Rattle.std.specs.Map.{lookup}
 use Rattle.std.specs.Ordering.{nat_cmp}
 use Rattle.std.specs.Cmp.Lexicographic.{slice_cmp}
-use Rattle.druid_shard.specs.Described.{Described}
+use Rattle.druid_segment_descriptor.specs.Described.{Described}
 use Rattle.druid_timeline.specs.Holding.{Serving}
 use Rattle.druid_inventory.specs.Timelines.{kept, IsKept, AreTimelines}
 use Rattle.druid_inventory.proofs.TimelineLemmas.{same_or_not}

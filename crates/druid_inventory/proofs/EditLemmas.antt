@@ -7,17 +7,17 @@ use Rattle.std.specs.Map.{lookup}
 use Rattle.std.specs.Ordering.{nat_cmp}
 use Rattle.std.specs.Cmp.Lexicographic.{slice_cmp}
 use Rattle.std.specs.Result.{OnOk}
-use Rattle.druid_segid.proofs.OrderLemmas.{slice_cmp-Equal}
+use Rattle.druid_segment_id.proofs.OrderLemmas.{slice_cmp-Equal}
 use Rattle.std.proofs.lemmas.Bool.{cases_eq, false≢true}
 use Rattle.std.proofs.lemmas.List.Elements.{same_from_all_zip}
 use Rattle.std.proofs.lemmas.Option.{same_Some, none-some}
-use Rattle.druid_segid.specs.Identifier.{identifier_text}
-use Rattle.druid_segid.specs.Group.{group_of}
-use Rattle.druid_shard.specs.Described.{Described}
-use Rattle.druid_shard.specs.Replay.{IsSegmentSet, is_strict, after, with_segment, without_segment}
-use Rattle.druid_shard.specs.declared.change.Change.TheVariants.{Load, Drop}
+use Rattle.druid_segment_id.specs.Identifier.{identifier_text}
+use Rattle.druid_segment_id.specs.Group.{group_of}
+use Rattle.druid_segment_descriptor.specs.Described.{Described}
+use Rattle.druid_segment_descriptor.specs.Replay.{IsSegmentSet, is_strict, after, with_segment, without_segment}
+use Rattle.druid_segment_descriptor.specs.declared.change.Change.TheVariants.{Load, Drop}
 use Rattle.druid_base.proofs.MemberLemmas.{Contains-nil}
-use Rattle.druid_shard.proofs.ReplayLemmas.{strict_load, strict_drop, Contains-with_segment, Contains-without_segment}
+use Rattle.druid_segment_descriptor.proofs.ReplayLemmas.{strict_load, strict_drop, Contains-with_segment, Contains-without_segment}
 use Rattle.druid_timeline.specs.Holding.{Held, Serving, HoldsNothing, held_of, IsPlaceOf, IsServed, RemovesHeld}
 use Rattle.druid_inventory.specs.Entry.{Entry}
 use Rattle.druid_inventory.specs.Sources.{Serves}

@@ -2,13 +2,13 @@
 use Rattle.std.proofs.Common.{◌≡◌, List, set, Result, Ok, Err, subst}
 use Rattle.std.specs.Result.{IfOk, MatchResult, OnErr}
 use Rattle.std.proofs.lemmas.List.Sorted.{Contains-permutation, IsPermutation-sym}
-use Rattle.druid_shard.specs.Described.{Described}
-use Rattle.druid_shard.specs.Mark.{Point}
-use Rattle.druid_shard.specs.Reply.{AreSorted}
-use Rattle.druid_shard.specs.ReplyBody.{IsSnapshotOf}
-use Rattle.druid_shard.specs.declared.reply.Body.{Body}
-use Rattle.druid_shard.specs.declared.reply.Body.TheVariants.{Delta, Snapshot, Page, Reset}
-use Rattle.druid_shard.proofs.ReplayLemmas.{sorted-one_list}
+use Rattle.druid_segment_descriptor.specs.Described.{Described}
+use Rattle.druid_segment_descriptor.specs.Mark.{Point}
+use Rattle.druid_segment_descriptor.specs.Reply.{AreSorted}
+use Rattle.druid_segment_descriptor.specs.ReplyBody.{IsSnapshotOf}
+use Rattle.druid_segment_descriptor.specs.declared.reply.Body.{Body}
+use Rattle.druid_segment_descriptor.specs.declared.reply.Body.TheVariants.{Delta, Snapshot, Page, Reset}
+use Rattle.druid_segment_descriptor.proofs.ReplayLemmas.{sorted-one_list}
 
 -- what is reported of a value, without what is reported of an error
 pub ok_case : {T E : Type 0} (r : Result T E) (P : T → Type 0) (Q : E → Type 0) → MatchResult r P Q → IfOk r P

@@ -14,10 +14,10 @@ use Rattle.std.proofs.lemmas.List.{length-map}
 use Rattle.std.proofs.lemmas.Option.{same_Some, none-some}
 use Rattle.std.proofs.lemmas.Slice.Eq.{bytes_eq-Decides, slice_eq-Decides}
 use Rattle.druid_base.proofs.ListLemmas.{set-found}
-use Rattle.druid_shard.specs.Described.{same_described}
-use Rattle.druid_shard.specs.Mark.{Point, same_mark, mark_cmp}
-use Rattle.druid_shard.specs.Orders.{mark_cmp-total, mark_cmp-ties, same_mark-equiv}
-use Rattle.druid_shard.proofs.DescribedLemmas.{same_sets}
+use Rattle.druid_segment_descriptor.specs.Described.{same_described}
+use Rattle.druid_segment_descriptor.specs.Mark.{Point, same_mark, mark_cmp}
+use Rattle.druid_segment_descriptor.specs.Orders.{mark_cmp-total, mark_cmp-ties, same_mark-equiv}
+use Rattle.druid_segment_descriptor.proofs.DescribedLemmas.{same_sets}
 use Rattle.druid_inventory.specs.Entry.{Entry}
 use Rattle.druid_inventory.specs.Equality.{same_entry, same_entries, same_entry-equiv}
 use Rattle.druid_inventory.specs.Join.{names_of, later, later_each, Conflict, ConflictAt, IsJoin, RefusesJoin, TellsJoin}

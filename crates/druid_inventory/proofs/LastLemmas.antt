@@ -11,15 +11,15 @@ use Rattle.std.proofs.lemmas.List.Edits.{length-insert, get_or-insert_below, get
 use Rattle.druid_base.proofs.MemberLemmas.{Contains-insert}
 use Rattle.std.specs.Ordering.{nat_cmp}
 use Rattle.std.specs.Cmp.Lexicographic.{slice_cmp}
-use Rattle.druid_segid.specs.Identifier.{Identifier, identifier_text, identifier_cmp}
-use Rattle.druid_shard.specs.Described.{Described}
-use Rattle.druid_shard.specs.Replay.{IsSegmentSet, StandsAt, BelongsAt, replay_from}
-use Rattle.druid_shard.specs.Reply.{AreSorted}
-use Rattle.druid_shard.specs.declared.change.Change.{Change}
-use Rattle.druid_shard.specs.declared.change.Change.TheVariants.{Load, Drop}
-use Rattle.druid_shard.proofs.PlaceLemmas.{IsLeft, IsLeft-above, IsLeft-below, StandsAt-found, inserted}
-use Rattle.druid_shard.proofs.ReplayLemmas.{are_sorted, in_order, with_segment-in_order}
-use Rattle.druid_shard.proofs.SortedLemmas.{AreSorted-own}
+use Rattle.druid_segment_id.specs.Identifier.{Identifier, identifier_text, identifier_cmp}
+use Rattle.druid_segment_descriptor.specs.Described.{Described}
+use Rattle.druid_segment_descriptor.specs.Replay.{IsSegmentSet, StandsAt, BelongsAt, replay_from}
+use Rattle.druid_segment_descriptor.specs.Reply.{AreSorted}
+use Rattle.druid_segment_descriptor.specs.declared.change.Change.{Change}
+use Rattle.druid_segment_descriptor.specs.declared.change.Change.TheVariants.{Load, Drop}
+use Rattle.druid_segment_descriptor.proofs.PlaceLemmas.{IsLeft, IsLeft-above, IsLeft-below, StandsAt-found, inserted}
+use Rattle.druid_segment_descriptor.proofs.ReplayLemmas.{are_sorted, in_order, with_segment-in_order}
+use Rattle.druid_segment_descriptor.proofs.SortedLemmas.{AreSorted-own}
 use Rattle.druid_inventory.specs.Judged.{segment_of, NoneOfFrom, IsHolderOf, IsLastOf, AreLast, IsFound, noted}
 use Rattle.druid_inventory.proofs.ReplayedLemmas.{belongs_absent, holder-loaded, holder-dropped}
 

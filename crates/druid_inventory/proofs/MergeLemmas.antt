@@ -10,16 +10,16 @@ use Rattle.std.proofs.lemmas.List.Edits.{remove-append_right, insert-append_left
 use Rattle.std.proofs.lemmas.List.Elements.{Contains-append_left, Contains-append_right, Contains-append_cases, Contains-push, Contains-push_cases}
 use Rattle.std.proofs.Math.Seq.{drop-cons}
 use Rattle.druid_base.proofs.MemberLemmas.{Contains-cons, Contains-later, Contains-nil}
-use Rattle.druid_pages.proofs.OrderLemmas.{sorted_append, sorted_back}
-use Rattle.druid_segid.specs.Identifier.{Identifier, identifier_text}
-use Rattle.druid_shard.specs.Described.{Described}
-use Rattle.druid_shard.specs.Reply.{IsBefore, AreSorted}
-use Rattle.druid_shard.specs.Replay.{IsSegmentSet, StandsAt, BelongsAt, is_strict, replay_from, with_segment, without_segment}
-use Rattle.druid_shard.specs.declared.change.Change.{Change}
-use Rattle.druid_shard.specs.declared.change.Change.TheVariants.{Load, Drop}
-use Rattle.druid_shard.proofs.PlaceLemmas.{inserted, removed}
-use Rattle.druid_shard.proofs.ReplayLemmas.{after-set, are_sorted, before_trans, in_order, replay_from-set, sorted-one_list, strict_drop, with_segment-in_order, Contains-with_segment, Contains-without_segment}
-use Rattle.druid_shard.proofs.SortedLemmas.{not_before_itself}
+use Rattle.druid_sync_pages.proofs.OrderLemmas.{sorted_append, sorted_back}
+use Rattle.druid_segment_id.specs.Identifier.{Identifier, identifier_text}
+use Rattle.druid_segment_descriptor.specs.Described.{Described}
+use Rattle.druid_segment_descriptor.specs.Reply.{IsBefore, AreSorted}
+use Rattle.druid_segment_descriptor.specs.Replay.{IsSegmentSet, StandsAt, BelongsAt, is_strict, replay_from, with_segment, without_segment}
+use Rattle.druid_segment_descriptor.specs.declared.change.Change.{Change}
+use Rattle.druid_segment_descriptor.specs.declared.change.Change.TheVariants.{Load, Drop}
+use Rattle.druid_segment_descriptor.proofs.PlaceLemmas.{inserted, removed}
+use Rattle.druid_segment_descriptor.proofs.ReplayLemmas.{after-set, are_sorted, before_trans, in_order, replay_from-set, sorted-one_list, strict_drop, with_segment-in_order, Contains-with_segment, Contains-without_segment}
+use Rattle.druid_segment_descriptor.proofs.SortedLemmas.{not_before_itself}
 use Rattle.druid_inventory.specs.Judged.{segment_of, NoneOfFrom, IsLastOf, AreLast}
 use Rattle.druid_inventory.specs.Merged.{exchanged, NoneIs, IsLoaded}
 use Rattle.druid_inventory.proofs.ReplayedLemmas.{belongs_absent, holder-loaded, holder-dropped, one_holder, untouched}

@@ -1,11 +1,11 @@
 -- Pages that come as replies, and the snapshot that they give.
 use Rattle.std.proofs.Common.{◌≤◌, ℕ, List, length, Option, None, Some, refl, sym, inl, inr, arith}
 use Rattle.std.proofs.lemmas.Option.{none-some}
-use Rattle.druid_shard.specs.Described.{Described}
-use Rattle.druid_shard.specs.Mark.{Point}
-use Rattle.druid_shard.specs.Reply.{AreSorted, IsFull, IsPageOf}
-use Rattle.druid_shard.specs.declared.reply.Body.TheVariants.{Snapshot}
-use Rattle.druid_pages.specs.Assembly.{Parts, Page, IsPage, Takes}
+use Rattle.druid_segment_descriptor.specs.Described.{Described}
+use Rattle.druid_segment_descriptor.specs.Mark.{Point}
+use Rattle.druid_segment_descriptor.specs.Reply.{AreSorted, IsFull, IsPageOf}
+use Rattle.druid_segment_descriptor.specs.declared.reply.Body.TheVariants.{Snapshot}
+use Rattle.druid_sync_pages.specs.Assembly.{Parts, Page, IsPage, Takes}
 use Rattle.druid_inventory.specs.Assembly.{Gives}
 
 some_in : (page of count : ℕ) → IsFull page of count → 1 ≤ count

@@ -3,14 +3,14 @@ use Rattle.std.proofs.Common.{◌≡◌, ◌≤◌, ℕ, List, Some, length, Bor
 use Rattle.std.specs.List.{slice_get}
 use Rattle.std.specs.declared.cmp.Ordering.TheVariants.{Less, Equal, Greater}
 use Rattle.std.proofs.lemmas.Option.{same_Some}
-use Rattle.druid_shard.specs.Described.{Described}
-use Rattle.druid_shard.specs.Mark.{Point, mark_cmp}
-use Rattle.druid_shard.specs.Replay.{replay_from}
-use Rattle.druid_shard.specs.Reply.{IsSnapshot, max_changes}
-use Rattle.druid_shard.specs.declared.change.Change.{Change}
-use Rattle.druid_shard.specs.declared.change.Cause.{Cause}
-use Rattle.druid_shard.specs.declared.reply.Body.{Body}
-use Rattle.druid_shard.specs.declared.reply.Body.TheVariants.{Delta, Snapshot, Page, Reset}
+use Rattle.druid_segment_descriptor.specs.Described.{Described}
+use Rattle.druid_segment_descriptor.specs.Mark.{Point, mark_cmp}
+use Rattle.druid_segment_descriptor.specs.Replay.{replay_from}
+use Rattle.druid_segment_descriptor.specs.Reply.{IsSnapshot, max_changes}
+use Rattle.druid_segment_descriptor.specs.declared.change.Change.{Change}
+use Rattle.druid_segment_descriptor.specs.declared.change.Cause.{Cause}
+use Rattle.druid_segment_descriptor.specs.declared.reply.Body.{Body}
+use Rattle.druid_segment_descriptor.specs.declared.reply.Body.TheVariants.{Delta, Snapshot, Page, Reset}
 use Rattle.druid_inventory.specs.Entry.{Entry}
 use Rattle.druid_inventory.specs.Plan.{outcome_of, Fits, Leads, LeadsAt, IsPlanOf, IsPlanAt}
 use Rattle.druid_inventory.specs.Step.{Steps, StepsAt, Refuses, Tells, GoesOn, moved_to, tail_of}

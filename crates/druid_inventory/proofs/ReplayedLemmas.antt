@@ -10,15 +10,15 @@ use Rattle.std.proofs.lemmas.List.{get_or_default, get_or-drop, take-append-drop
 use Rattle.std.proofs.lemmas.List.Edits.{length-remove}
 use Rattle.std.proofs.lemmas.Option.{same_Some}
 use Rattle.druid_base.proofs.OptionLemmas.{chained}
-use Rattle.druid_segid.specs.Identifier.{Identifier, identifier_text}
-use Rattle.druid_shard.specs.Described.{Described}
-use Rattle.druid_shard.specs.Reply.{AreSorted, max_segments}
-use Rattle.druid_shard.specs.Replay.{IsSegmentSet, IsChangedBy, StandsAt, BelongsAt, is_strict, has_room, after, changed, replay_from, without_segment}
-use Rattle.druid_shard.specs.declared.change.Change.{Change}
-use Rattle.druid_shard.specs.declared.change.Change.TheVariants.{Load, Drop}
-use Rattle.druid_shard.proofs.PlaceLemmas.{Precedes}
-use Rattle.druid_shard.proofs.ReplayLemmas.{in_order, after-set, changed-is, changed-one, changed-made, replay_from-append, replay_from-front, replay_from-set, strict_load, strict_drop, length-with_segment, without_segment-at}
-use Rattle.druid_shard.proofs.SortedLemmas.{AreSorted-own}
+use Rattle.druid_segment_id.specs.Identifier.{Identifier, identifier_text}
+use Rattle.druid_segment_descriptor.specs.Described.{Described}
+use Rattle.druid_segment_descriptor.specs.Reply.{AreSorted, max_segments}
+use Rattle.druid_segment_descriptor.specs.Replay.{IsSegmentSet, IsChangedBy, StandsAt, BelongsAt, is_strict, has_room, after, changed, replay_from, without_segment}
+use Rattle.druid_segment_descriptor.specs.declared.change.Change.{Change}
+use Rattle.druid_segment_descriptor.specs.declared.change.Change.TheVariants.{Load, Drop}
+use Rattle.druid_segment_descriptor.proofs.PlaceLemmas.{Precedes}
+use Rattle.druid_segment_descriptor.proofs.ReplayLemmas.{in_order, after-set, changed-is, changed-one, changed-made, replay_from-append, replay_from-front, replay_from-set, strict_load, strict_drop, length-with_segment, without_segment-at}
+use Rattle.druid_segment_descriptor.proofs.SortedLemmas.{AreSorted-own}
 use Rattle.druid_inventory.specs.Judged.{segment_of, IsHolderOf, NoneOfFrom}
 
 -- ---- members of one identifier

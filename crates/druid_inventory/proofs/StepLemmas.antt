@@ -9,17 +9,17 @@ use Rattle.std.specs.declared.cmp.Ordering.TheVariants.{Less, Equal, Greater}
 use Rattle.std.proofs.lemmas.Bool.{false≢true, cases_eq, cases_order}
 use Rattle.std.proofs.lemmas.List.{take_all, take_rest}
 use Rattle.std.proofs.lemmas.Option.{same_Some, none-some}
-use Rattle.druid_shard.proofs.SortedLemmas.{mark_cmp-same}
+use Rattle.druid_segment_descriptor.proofs.SortedLemmas.{mark_cmp-same}
 use Rattle.druid_base.proofs.OrderLemmas.{nat_cmp-lt, nat_cmp-eq}
 use Rattle.druid_base.proofs.OptionLemmas.{chained}
-use Rattle.druid_shard.specs.Described.{Described, same_described}
-use Rattle.druid_shard.specs.Mark.{Point, mark_cmp}
-use Rattle.druid_shard.specs.Replay.{is_strict, has_room, after, changed, replay_from}
-use Rattle.druid_shard.specs.declared.change.Change.{Change}
-use Rattle.druid_shard.specs.declared.reply.Body.{Body}
-use Rattle.druid_shard.specs.declared.reply.Body.TheVariants.{Delta, Snapshot, Page, Reset}
-use Rattle.druid_shard.proofs.DescribedLemmas.{same_described-decides}
-use Rattle.druid_shard.proofs.ReplayLemmas.{changed-made, changed-not_strict, changed-no_room, replay_from-front}
+use Rattle.druid_segment_descriptor.specs.Described.{Described, same_described}
+use Rattle.druid_segment_descriptor.specs.Mark.{Point, mark_cmp}
+use Rattle.druid_segment_descriptor.specs.Replay.{is_strict, has_room, after, changed, replay_from}
+use Rattle.druid_segment_descriptor.specs.declared.change.Change.{Change}
+use Rattle.druid_segment_descriptor.specs.declared.reply.Body.{Body}
+use Rattle.druid_segment_descriptor.specs.declared.reply.Body.TheVariants.{Delta, Snapshot, Page, Reset}
+use Rattle.druid_segment_descriptor.proofs.DescribedLemmas.{same_described-decides}
+use Rattle.druid_segment_descriptor.proofs.ReplayLemmas.{changed-made, changed-not_strict, changed-no_room, replay_from-front}
 use Rattle.druid_inventory.specs.Entry.{Entry}
 use Rattle.druid_inventory.specs.Step.{Steps, Refuses, GoesOn, IsAhead, DeltaMoves, DeltaRefused, DeltaIsKnown, SnapshotIsKnown, SnapshotConflicts, SnapshotRefused, NotStrictAt, NoRoomAt, known_of, tail_of, moved_to, StepsAt, RefusedAt, Tells}
 use Rattle.druid_inventory.specs.declared.fault.Outcome.{Outcome}

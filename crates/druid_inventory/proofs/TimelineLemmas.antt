@@ -15,10 +15,10 @@ use Rattle.std.specs.declared.cmp.Ordering.TheVariants.{Less, Equal, Greater}
 use Rattle.std.specs.Cmp.Lexicographic.{slice_cmp, bytes_decides}
 use Rattle.std.proofs.lemmas.Option.{same_Some, none-some, slice_get-map, slice_get_read, MatchOption-at_some}
 use Rattle.std.proofs.lemmas.Bool.{false≢true}
-use Rattle.druid_segid.specs.Identifier.{Identifier}
-use Rattle.druid_segid.specs.Group.{group_of}
-use Rattle.druid_segid.proofs.OrderLemmas.{slice_cmp-Equal}
-use Rattle.druid_shard.specs.Described.{Described}
+use Rattle.druid_segment_id.specs.Identifier.{Identifier}
+use Rattle.druid_segment_id.specs.Group.{group_of}
+use Rattle.druid_segment_id.proofs.OrderLemmas.{slice_cmp-Equal}
+use Rattle.druid_segment_descriptor.specs.Described.{Described}
 use Rattle.druid_base.proofs.MemberLemmas.{Contains-nil}
 use Rattle.druid_timeline.specs.Holding.{Held, Serving, held_of, IsHeld, AddsHeld}
 use Rattle.druid_inventory.specs.Entry.{Entry, fresh}

@@ -8,17 +8,17 @@ use Rattle.std.specs.Result.{OnOk, OnErr}
 use Rattle.std.specs.Ordering.{nat_cmp}
 use Rattle.std.specs.Cmp.Lexicographic.{slice_cmp}
 use Rattle.std.proofs.lemmas.Bool.{false≢true}
-use Rattle.druid_segid.specs.Group.{Group, same_group}
-use Rattle.druid_segid.proofs.OrderLemmas.{slice_cmp-Equal}
-use Rattle.druid_chunks.specs.Chunks.{members_at}
-use Rattle.druid_chunks.proofs.ChunkLemmas.{same_group-exact, same_group-itself}
-use Rattle.druid_members.specs.Members.{Member}
-use Rattle.druid_shard.specs.Described.{Described}
-use Rattle.druid_shard.specs.Replay.{IsSegmentSet, is_strict, after, with_segment, without_segment}
-use Rattle.druid_shard.specs.declared.change.Change.{Change}
-use Rattle.druid_shard.specs.declared.change.Change.TheVariants.{Load, Drop}
+use Rattle.druid_segment_id.specs.Group.{Group, same_group}
+use Rattle.druid_segment_id.proofs.OrderLemmas.{slice_cmp-Equal}
+use Rattle.druid_timeline_chunks.specs.Chunks.{members_at}
+use Rattle.druid_timeline_chunks.proofs.ChunkLemmas.{same_group-exact, same_group-itself}
+use Rattle.druid_timeline_members.specs.Members.{Member}
+use Rattle.druid_segment_descriptor.specs.Described.{Described}
+use Rattle.druid_segment_descriptor.specs.Replay.{IsSegmentSet, is_strict, after, with_segment, without_segment}
+use Rattle.druid_segment_descriptor.specs.declared.change.Change.{Change}
+use Rattle.druid_segment_descriptor.specs.declared.change.Change.TheVariants.{Load, Drop}
 use Rattle.druid_base.proofs.MemberLemmas.{Contains-map, Contains-map_back}
-use Rattle.druid_shard.proofs.ReplayLemmas.{strict_drop}
+use Rattle.druid_segment_descriptor.proofs.ReplayLemmas.{strict_drop}
 use Rattle.druid_timeline.specs.Holding.{Held, Serving, HoldsNothing, members_of}
 use Rattle.druid_timeline.specs.Transactions.{Edited}
 use Rattle.druid_timeline.proofs.HoldingLemmas.{in_filter, from_filter}

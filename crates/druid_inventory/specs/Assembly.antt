@@ -1,11 +1,11 @@
 -- The pages of a snapshot that come as replies, and the snapshot that they give.
 use Rattle.std.specs.Prelude.{◌≡◌, ⊤, List, Option, option_map}
-use Rattle.druid_shard.specs.Described.{Described}
-use Rattle.druid_shard.specs.declared.reply.Body.{Body}
-use Rattle.druid_shard.specs.declared.reply.Body.TheVariants.{Delta, Snapshot, Reset}
-use Rattle.druid_shard.specs.declared.reply.Body.TheVariants as replies
-use Rattle.druid_pages.specs.Assembly.{Parts, Page, Takes, Refuses}
-use Rattle.druid_pages.specs.declared.fault.PageFault.TheVariants.{Conflict, Memory}
+use Rattle.druid_segment_descriptor.specs.Described.{Described}
+use Rattle.druid_segment_descriptor.specs.declared.reply.Body.{Body}
+use Rattle.druid_segment_descriptor.specs.declared.reply.Body.TheVariants.{Delta, Snapshot, Reset}
+use Rattle.druid_segment_descriptor.specs.declared.reply.Body.TheVariants as replies
+use Rattle.druid_sync_pages.specs.Assembly.{Parts, Page, Takes, Refuses}
+use Rattle.druid_sync_pages.specs.declared.fault.PageFault.TheVariants.{Conflict, Memory}
 use Rattle.druid_inventory.specs.declared.fault.ApplyFault.{ApplyFault}
 use Rattle.druid_inventory.specs.declared.fault.ApplyFault.TheVariants as faults
 

@@ -1,16 +1,16 @@
 -- What a broker knows of the data nodes.
 use Rattle.std.specs.Prelude.{◌≡◌, ◌≢◌, ◌==◌, ◌&&◌, ℕ, Bool, List, [], length, nat_lt, nat_le, slice_get, Some, if◌then◌else◌}
-use Rattle.druid_shard.specs.Described.{Described}
-use Rattle.druid_shard.specs.Mark.{Point, never, same_mark}
-use Rattle.druid_shard.specs.Reply.{max_page}
-use Rattle.druid_shard.specs.declared.change.Ask.{Ask}
-use Rattle.druid_shard.specs.declared.change.Ask.TheVariants.{Whole, Since}
-use Rattle.druid_shard.specs.declared.change.Ask.TheVariants as asks
-use Rattle.druid_shard.specs.declared.change.Cause.{Cause}
-use Rattle.druid_shard.specs.declared.change.Cause.TheVariants.{OtherIncarnation, TooOld}
-use Rattle.druid_shard.specs.declared.reply.Body.{Body}
-use Rattle.druid_shard.specs.declared.reply.Body.TheVariants.{Snapshot, Page, Reset}
-use Rattle.druid_pages.specs.Pages.{page_at, pages_in}
+use Rattle.druid_segment_descriptor.specs.Described.{Described}
+use Rattle.druid_segment_descriptor.specs.Mark.{Point, never, same_mark}
+use Rattle.druid_segment_descriptor.specs.Reply.{max_page}
+use Rattle.druid_segment_descriptor.specs.declared.change.Ask.{Ask}
+use Rattle.druid_segment_descriptor.specs.declared.change.Ask.TheVariants.{Whole, Since}
+use Rattle.druid_segment_descriptor.specs.declared.change.Ask.TheVariants as asks
+use Rattle.druid_segment_descriptor.specs.declared.change.Cause.{Cause}
+use Rattle.druid_segment_descriptor.specs.declared.change.Cause.TheVariants.{OtherIncarnation, TooOld}
+use Rattle.druid_segment_descriptor.specs.declared.reply.Body.{Body}
+use Rattle.druid_segment_descriptor.specs.declared.reply.Body.TheVariants.{Snapshot, Page, Reset}
+use Rattle.druid_sync_pages.specs.Pages.{page_at, pages_in}
 
 -- the most nodes of a list
 abbrev pub max_nodes : ℕ

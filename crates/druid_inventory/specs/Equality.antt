@@ -3,9 +3,9 @@ use Rattle.std.specs.Prelude.{◌&&◌, Bool, List, bytes_eq}
 use Rattle.std.specs.Cmp.{IsEquivalence, IsPartialEquivalence, partial_equiv_from_equiv}
 use Rattle.std.specs.Cmp.Lexicographic.{pointwise, nat_list_eq_equiv}
 use Rattle.std.proofs.lemmas.Cmp.{and_equiv, on_equiv, lists_equiv}
-use Rattle.druid_shard.specs.Described.{same_described}
-use Rattle.druid_shard.specs.Mark.{same_mark}
-use Rattle.druid_shard.specs.Orders.{same_mark-equiv, same_described-equiv}
+use Rattle.druid_segment_descriptor.specs.Described.{same_described}
+use Rattle.druid_segment_descriptor.specs.Mark.{same_mark}
+use Rattle.druid_segment_descriptor.specs.Orders.{same_mark-equiv, same_described-equiv}
 use Rattle.druid_inventory.specs.Entry.{Entry}
 
 abbrev pub same_entry : Entry → Entry → Bool

@@ -2,7 +2,7 @@
 use Rattle.std.specs.Prelude.{◌≡◌, ◌≢◌, ℕ, ◌<◌, List, map, Some, slice_get, if◌then◌else◌}
 use Rattle.std.specs.List.{zip}
 use Rattle.std.specs.Ordering.{is_lt}
-use Rattle.druid_shard.specs.Mark.{mark_cmp}
+use Rattle.druid_segment_descriptor.specs.Mark.{mark_cmp}
 use Rattle.druid_inventory.specs.Entry.{Entry}
 use Rattle.druid_inventory.specs.declared.fault.JoinFault.{JoinFault}
 use Rattle.druid_inventory.specs.declared.fault.JoinFault.TheVariants as faults

@@ -2,13 +2,13 @@
 use Rattle.std.specs.Prelude.{◌≡◌, ℕ, ◌+◌, ◌<◌, ◌≤◌, List, Option, Result, Ok, Err, length, false, Some, slice_get, slice_set, slice_index, slice_index_or, Contains, MatchOption, MatchResult}
 use Rattle.std.specs.List.{insert}
 use Rattle.std.specs.Ordering.{is_lt}
-use Rattle.druid_segid.specs.Identifier.{Identifier, identifier_text}
-use Rattle.druid_shard.specs.Described.{Described}
-use Rattle.druid_shard.specs.Mark.{mark_cmp}
-use Rattle.druid_shard.specs.Replay.{StandsAt, BelongsAt}
-use Rattle.druid_shard.specs.Reply.{AreSorted}
-use Rattle.druid_shard.specs.declared.change.Change.{Change}
-use Rattle.druid_shard.specs.declared.change.Change.TheVariants.{Load, Drop}
+use Rattle.druid_segment_id.specs.Identifier.{Identifier, identifier_text}
+use Rattle.druid_segment_descriptor.specs.Described.{Described}
+use Rattle.druid_segment_descriptor.specs.Mark.{mark_cmp}
+use Rattle.druid_segment_descriptor.specs.Replay.{StandsAt, BelongsAt}
+use Rattle.druid_segment_descriptor.specs.Reply.{AreSorted}
+use Rattle.druid_segment_descriptor.specs.declared.change.Change.{Change}
+use Rattle.druid_segment_descriptor.specs.declared.change.Change.TheVariants.{Load, Drop}
 use Rattle.druid_inventory.specs.Entry.{Entry}
 use Rattle.druid_inventory.specs.Step.{NotStrictAt, NoRoomAt}
 use Rattle.druid_inventory.specs.declared.fault.ApplyFault.{ApplyFault}

@@ -1,9 +1,9 @@
 -- An entry that moves by changes of its set: only proofs use this.
 use Rattle.std.specs.Prelude.{◌≡◌, ℕ, List, Some, slice_get, slice_set}
-use Rattle.druid_shard.specs.Described.{Described}
-use Rattle.druid_shard.specs.Mark.{Point}
-use Rattle.druid_shard.specs.Replay.{replay_from}
-use Rattle.druid_shard.specs.declared.change.Change.{Change}
+use Rattle.druid_segment_descriptor.specs.Described.{Described}
+use Rattle.druid_segment_descriptor.specs.Mark.{Point}
+use Rattle.druid_segment_descriptor.specs.Replay.{replay_from}
+use Rattle.druid_segment_descriptor.specs.declared.change.Change.{Change}
 use Rattle.druid_inventory.specs.Entry.{Entry}
 use Rattle.druid_inventory.specs.Step.{moved_to}
 

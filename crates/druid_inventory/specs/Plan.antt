@@ -1,9 +1,9 @@
 -- What is planned for an entry, before it is carried out: only proofs use this.
 use Rattle.std.specs.Prelude.{◌≡◌, ℕ, ◌≤◌, List, length, Some, slice_get, slice_set, ⊤}
-use Rattle.druid_shard.specs.Described.{Described}
-use Rattle.druid_shard.specs.Replay.{replay_from}
-use Rattle.druid_shard.specs.Reply.{IsSnapshot, max_changes}
-use Rattle.druid_shard.specs.declared.reply.Body.{Body}
+use Rattle.druid_segment_descriptor.specs.Described.{Described}
+use Rattle.druid_segment_descriptor.specs.Replay.{replay_from}
+use Rattle.druid_segment_descriptor.specs.Reply.{IsSnapshot, max_changes}
+use Rattle.druid_segment_descriptor.specs.declared.reply.Body.{Body}
 use Rattle.druid_inventory.specs.Entry.{Entry}
 use Rattle.druid_inventory.specs.Moves.{Moves}
 use Rattle.druid_inventory.specs.Step.{Steps, moved_to}

@@ -1,6 +1,6 @@
 -- The data sources of an inventory.
 use Rattle.std.specs.Prelude.{◌≡◌, ℕ, List, ◌↔◌, Some, slice_get, Contains}
-use Rattle.druid_shard.specs.Described.{Described}
+use Rattle.druid_segment_descriptor.specs.Described.{Described}
 use Rattle.druid_timeline.specs.Holding.{Held, held_of}
 use Rattle.druid_inventory.specs.Entry.{Entry}
 

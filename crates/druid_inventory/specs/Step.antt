@@ -1,12 +1,12 @@
 -- What a reply makes of an entry.
 use Rattle.std.specs.Prelude.{◌≡◌, ◌⊎◌, ℕ, ◌+◌, ◌-◌, ◌<◌, ◌≤◌, true, false, List, Some, None, take, drop, slice_get}
 use Rattle.std.specs.declared.cmp.Ordering.TheVariants.{Less, Equal, Greater}
-use Rattle.druid_shard.specs.Described.{Described}
-use Rattle.druid_shard.specs.Mark.{Point, mark_cmp}
-use Rattle.druid_shard.specs.Replay.{is_strict, has_room, replay_from}
-use Rattle.druid_shard.specs.declared.change.Change.{Change}
-use Rattle.druid_shard.specs.declared.reply.Body.{Body}
-use Rattle.druid_shard.specs.declared.reply.Body.TheVariants.{Delta, Snapshot, Page, Reset}
+use Rattle.druid_segment_descriptor.specs.Described.{Described}
+use Rattle.druid_segment_descriptor.specs.Mark.{Point, mark_cmp}
+use Rattle.druid_segment_descriptor.specs.Replay.{is_strict, has_room, replay_from}
+use Rattle.druid_segment_descriptor.specs.declared.change.Change.{Change}
+use Rattle.druid_segment_descriptor.specs.declared.reply.Body.{Body}
+use Rattle.druid_segment_descriptor.specs.declared.reply.Body.TheVariants.{Delta, Snapshot, Page, Reset}
 use Rattle.druid_inventory.specs.Entry.{Entry}
 use Rattle.druid_inventory.specs.declared.fault.Outcome.{Outcome}
 use Rattle.druid_inventory.specs.declared.fault.Outcome.TheVariants.{Moved, AlreadyHave, AskWhole, AskPages}

@@ -3,11 +3,11 @@ use Rattle.std.specs.Prelude.{◌≡◌, ◌≢◌, ℕ, ◌≤◌, ◌⊎◌, B
 use Rattle.std.specs.BTreeMap.{BTreeMap, get}
 use Rattle.std.specs.Ordering.{nat_cmp}
 use Rattle.std.specs.Cmp.Lexicographic.{slice_cmp}
-use Rattle.druid_shard.specs.Described.{Described}
-use Rattle.druid_shard.specs.Mark.{never}
-use Rattle.druid_shard.specs.Replay.{IsSegmentSet}
-use Rattle.druid_shard.specs.declared.change.Change.{Change}
-use Rattle.druid_shard.specs.declared.change.Change.TheVariants.{Load, Drop}
+use Rattle.druid_segment_descriptor.specs.Described.{Described}
+use Rattle.druid_segment_descriptor.specs.Mark.{never}
+use Rattle.druid_segment_descriptor.specs.Replay.{IsSegmentSet}
+use Rattle.druid_segment_descriptor.specs.declared.change.Change.{Change}
+use Rattle.druid_segment_descriptor.specs.declared.change.Change.TheVariants.{Load, Drop}
 use Rattle.druid_timeline.specs.Holding.{Held, Serving, held_of, HoldsNothing, IsHeld, IsServed, AddsHeld, RemovesHeld}
 use Rattle.druid_inventory.specs.Entry.{Entry, max_nodes}
 use Rattle.druid_inventory.specs.Sources.{Serves}

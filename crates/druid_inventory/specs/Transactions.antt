@@ -3,11 +3,11 @@ use Rattle.std.specs.Prelude.{◌≡◌, ℕ, List, Option, None, Some, IsSome}
 use Rattle.std.specs.BTreeMap.{BTreeMap, get}
 use Rattle.std.specs.Ordering.{nat_cmp}
 use Rattle.std.specs.Cmp.Lexicographic.{slice_cmp}
-use Rattle.druid_segid.specs.Group.{Group}
-use Rattle.druid_chunks.specs.Chunks.{members_at}
-use Rattle.druid_shard.specs.Described.{Described}
-use Rattle.druid_shard.specs.declared.change.Change.{Change}
-use Rattle.druid_shard.specs.declared.change.Change.TheVariants.{Load, Drop}
+use Rattle.druid_segment_id.specs.Group.{Group}
+use Rattle.druid_timeline_chunks.specs.Chunks.{members_at}
+use Rattle.druid_segment_descriptor.specs.Described.{Described}
+use Rattle.druid_segment_descriptor.specs.declared.change.Change.{Change}
+use Rattle.druid_segment_descriptor.specs.declared.change.Change.TheVariants.{Load, Drop}
 use Rattle.druid_timeline.specs.Holding.{Held, Serving, held_of, members_of, IsServed, AddsHeld, RemovesHeld}
 use Rattle.druid_timeline.specs.Transactions.{Edited}
 use Rattle.druid_inventory.specs.Entry.{Entry}

@@ -1,16 +1,16 @@
 //! The entry of a node moved to another mark, and the timelines with it.
 ghost use Rattle.std.specs.Prelude.{◌≡◌, ◌<◌, ◌≤◌, List, Some, OnOk, OnErr, length, map, slice_get, slice_set, vec_len};
 ghost use Rattle.std.specs.Arc.{arc_value};
-ghost use Rattle.druid_shard.specs.Described.{Described};
-ghost use Rattle.druid_shard.specs.Reply.{max_changes};
-ghost use Rattle.druid_shard.specs.Replay.{replay_from};
+ghost use Rattle.druid_segment_descriptor.specs.Described.{Described};
+ghost use Rattle.druid_segment_descriptor.specs.Reply.{max_changes};
+ghost use Rattle.druid_segment_descriptor.specs.Replay.{replay_from};
 ghost use Rattle.druid_inventory.specs.Entry.{Entry, max_nodes};
 ghost use Rattle.druid_inventory.specs.Moves.{Moves, MovesAt};
 ghost use Rattle.druid_inventory.specs.Timelines.{AreTimelines, AreTimelinesOf, IsInventory, ServesWith};
 
 use crate::known::Known;
 use crate::timelines::{ChangingTimelines, Timelines, change_set};
-use druid_shard::{Change, Mark, NodeNo};
+use druid_segment_descriptor::{Change, Mark, NodeNo};
 use std::alloc::{AllocError, Global};
 use std::sync::Arc;
 

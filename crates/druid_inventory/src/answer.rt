@@ -1,14 +1,14 @@
 //! What is known of a node, as a reply to a broker that asks: whole, or in pages.
 ghost use Rattle.std.specs.Prelude.{◌≡◌, ◌≢◌, ◌<◌, length, IsTrue, IfOk};
-ghost use Rattle.druid_shard.specs.Mark.{never};
-ghost use Rattle.druid_shard.specs.Reply.{max_page};
-ghost use Rattle.druid_pages.specs.Pages.{pages_in};
+ghost use Rattle.druid_segment_descriptor.specs.Mark.{never};
+ghost use Rattle.druid_segment_descriptor.specs.Reply.{max_page};
+ghost use Rattle.druid_sync_pages.specs.Pages.{pages_in};
 ghost use Rattle.druid_inventory.specs.Entry.{page_of, whole_or_page, has_page, cause_of, answer_of};
 
 use crate::known::Known;
 use crate::replies::page_of_set;
-use druid_pages::pages_of;
-use druid_shard::{Ask, Cause, MAX_PAGE, Mark, Reply};
+use druid_segment_descriptor::{Ask, Cause, MAX_PAGE, Mark, Reply};
+use druid_sync_pages::pages_of;
 use std::alloc::{AllocError, Global};
 
 // A page of all that the node serves at its mark.

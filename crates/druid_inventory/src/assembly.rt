@@ -1,13 +1,13 @@
 //! A snapshot put together of the replies that are its pages.
 ghost use Rattle.std.specs.Prelude.{◌≡◌, ◌≤◌, None, IfOk, IfErr, OnErr};
-ghost use Rattle.druid_shard.specs.Reply.{IsPageOf};
-ghost use Rattle.druid_shard.specs.ReplyBody.{IsReply};
+ghost use Rattle.druid_segment_descriptor.specs.Reply.{IsPageOf};
+ghost use Rattle.druid_segment_descriptor.specs.ReplyBody.{IsReply};
 ghost use Rattle.druid_inventory.specs.Assembly.{Gives, IsPageReply, PageRefused, TakesReply, RefusesReply};
 
 use crate::ApplyFault;
 use crate::replies::snapshot_of;
-use druid_pages::{Assembly as Pages, PageFault};
-use druid_shard::{Body, Descriptor, Mark, Reply};
+use druid_segment_descriptor::{Body, Descriptor, Mark, Reply};
+use druid_sync_pages::{Assembly as Pages, PageFault};
 use std::alloc::{AllocError, Global};
 use std::marker::Model;
 
@@ -19,7 +19,7 @@ pub struct Assembly {
 
 impl Model for Assembly {
     ghost use Rattle.std.specs.Prelude.{Option};
-    ghost use Rattle.druid_pages.specs.Assembly.{Parts};
+    ghost use Rattle.druid_sync_pages.specs.Assembly.{Parts};
 
     ghost Value = { Option Parts };
 

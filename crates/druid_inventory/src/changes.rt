@@ -1,8 +1,8 @@
 //! Changes made of a set and of the timelines over it, in place: wholly, or not at all.
 ghost use Rattle.std.specs.Prelude.{◌≡◌, ◌≤◌, List, Some, OnOk, OnErr, length};
-ghost use Rattle.druid_shard.specs.Described.{Described};
-ghost use Rattle.druid_shard.specs.Reply.{max_changes};
-ghost use Rattle.druid_shard.specs.Replay.{IsSegmentSet, replay_from};
+ghost use Rattle.druid_segment_descriptor.specs.Described.{Described};
+ghost use Rattle.druid_segment_descriptor.specs.Reply.{max_changes};
+ghost use Rattle.druid_segment_descriptor.specs.Replay.{IsSegmentSet, replay_from};
 ghost use Rattle.druid_inventory.specs.Entry.{Entry};
 ghost use Rattle.druid_inventory.specs.Timelines.{AreTimelines, ServesWith};
 
@@ -10,7 +10,7 @@ use crate::merge::{loads_of, put_in, take_out};
 use crate::strict::note_each;
 use crate::timelines::Timelines;
 use crate::transactions::replay_timelines;
-use druid_shard::{Change, Descriptor, MAX_CHANGES, NodeNo};
+use druid_segment_descriptor::{Change, Descriptor, MAX_CHANGES, NodeNo};
 use std::alloc::{AllocError, Global};
 
 // Makes changes of the set of a node and edits the timelines by them. Of each identifier the last change counts for the set.

@@ -5,8 +5,8 @@ ghost use Rattle.druid_timeline.specs.Holding.{held_of, HoldsNothing, IsHeld, Is
 ghost use Rattle.druid_inventory.specs.Ways.{serving_in};
 
 use crate::shared_timeline::SharedTimeline;
-use druid_segid::{Meter, Name, SegmentId};
-use druid_shard::{Descriptor, NodeNo};
+use druid_segment_descriptor::{Descriptor, NodeNo};
+use druid_segment_id::{Meter, Name, SegmentId};
 use druid_timeline::Holding;
 use std::alloc::{AllocError, Global};
 use std::marker::Model;

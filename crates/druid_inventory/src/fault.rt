@@ -5,7 +5,7 @@ ghost use Rattle.druid_inventory.specs.declared.fault.InventoryFault.TheVariants
 ghost use Rattle.druid_inventory.specs.declared.fault.ApplyFault.TheVariants as apply_fault;
 ghost use Rattle.druid_inventory.specs.declared.fault.JoinFault.TheVariants as join_fault;
 
-use druid_shard::NodeNo;
+use druid_segment_descriptor::NodeNo;
 use std::alloc::AllocError;
 use thiserror::Error;
 

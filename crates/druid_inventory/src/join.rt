@@ -2,7 +2,7 @@
 ghost use Rattle.std.specs.Prelude.{◌≡◌, ◌≢◌, ◌↔◌, ◌≤◌, ◌<◌, ℕ, Some, IsTrue, OnOk, false, MatchOption, length, map, slice_get, slice_set, vec_len};
 ghost use Rattle.std.specs.Arc.{arc_value};
 ghost use Rattle.std.specs.Ordering.{is_lt};
-ghost use Rattle.druid_shard.specs.Mark.{mark_cmp};
+ghost use Rattle.druid_segment_descriptor.specs.Mark.{mark_cmp};
 ghost use Rattle.druid_inventory.specs.Entry.{Entry, max_nodes};
 ghost use Rattle.druid_inventory.specs.Join.{names_of, later, Conflict, ConflictAt};
 ghost use Rattle.druid_inventory.specs.Judged.{NoneLater};
@@ -11,7 +11,7 @@ ghost use Rattle.druid_inventory.specs.Timelines.{AreTimelinesOf};
 use crate::advance::{entry_of, put_entry};
 use crate::known::{Known, are_same};
 use crate::timelines::ChangingTimelines;
-use druid_shard::NodeNo;
+use druid_segment_descriptor::NodeNo;
 use std::alloc::{AllocError, Global};
 use std::sync::Arc;
 

@@ -1,10 +1,10 @@
 //! What a reply makes of an entry, judged before anything is allocated.
 ghost use Rattle.std.specs.Prelude.{◌≡◌, ◌+◌, ◌<◌, ◌≤◌, ◌^◌, IfOk, IfErr, OnOk, Some, length, List};
-ghost use Rattle.druid_shard.specs.Described.{Described};
-ghost use Rattle.druid_shard.specs.Reply.{IsDelta, IsSnapshot, max_changes};
-ghost use Rattle.druid_shard.specs.ReplyBody.{IsReply};
-ghost use Rattle.druid_shard.specs.Replay.{IsSegmentSet, replay_from};
-ghost use Rattle.druid_shard.specs.declared.reply.Body.TheVariants.{Delta, Snapshot};
+ghost use Rattle.druid_segment_descriptor.specs.Described.{Described};
+ghost use Rattle.druid_segment_descriptor.specs.Reply.{IsDelta, IsSnapshot, max_changes};
+ghost use Rattle.druid_segment_descriptor.specs.ReplyBody.{IsReply};
+ghost use Rattle.druid_segment_descriptor.specs.Replay.{IsSegmentSet, replay_from};
+ghost use Rattle.druid_segment_descriptor.specs.declared.reply.Body.TheVariants.{Delta, Snapshot};
 ghost use Rattle.druid_inventory.specs.Step.{Refuses};
 ghost use Rattle.druid_inventory.specs.Judged.{IsOffence};
 ghost use Rattle.druid_inventory.specs.Plan.{IsPlanOf};
@@ -13,7 +13,7 @@ use crate::known::{Known, are_same};
 use crate::plan::Plan;
 use crate::strict::{find_last, is_strict_after, note_last, segment_of};
 use crate::{ApplyFault, Outcome};
-use druid_shard::{Body, Change, Descriptor, MAX_CHANGES, MAX_SEGMENTS, Mark};
+use druid_segment_descriptor::{Body, Change, Descriptor, MAX_CHANGES, MAX_SEGMENTS, Mark};
 use std::cmp::Ordering;
 
 // Whether changes can be made of a set, one after another: the first that offends decides. `known` changes stand before

@@ -1,10 +1,10 @@
 //! What is known of one node.
 ghost use Rattle.std.specs.Prelude.{◌≡◌, ◌≢◌, ◌↔◌, ◌≤◌, length, List, Some, IsTrue, IfOk, OnOk, OnErr};
-ghost use Rattle.druid_shard.specs.Described.{Described};
-ghost use Rattle.druid_shard.specs.Mark.{never};
-ghost use Rattle.druid_shard.specs.Reply.{max_changes};
-ghost use Rattle.druid_shard.specs.Replay.{IsSegmentSet, replay_from};
-ghost use Rattle.druid_shard.specs.declared.reply.Body.TheVariants.{Snapshot};
+ghost use Rattle.druid_segment_descriptor.specs.Described.{Described};
+ghost use Rattle.druid_segment_descriptor.specs.Mark.{never};
+ghost use Rattle.druid_segment_descriptor.specs.Reply.{max_changes};
+ghost use Rattle.druid_segment_descriptor.specs.Replay.{IsSegmentSet, replay_from};
+ghost use Rattle.druid_segment_descriptor.specs.declared.reply.Body.TheVariants.{Snapshot};
 ghost use Rattle.druid_inventory.specs.Entry.{Entry, fresh};
 ghost use Rattle.druid_inventory.specs.Equality.{same_entry, same_entry-per};
 ghost use Rattle.druid_inventory.specs.Moves.{Moves};
@@ -14,8 +14,8 @@ ghost use Rattle.druid_inventory.specs.Timelines.{AreTimelines, ServesWith};
 use crate::changes::advance_set;
 use crate::replies::snapshot_of;
 use crate::timelines::Timelines;
-use druid_segid::Name;
-use druid_shard::{Change, Descriptor, Mark, NodeNo, Reply};
+use druid_segment_descriptor::{Change, Descriptor, Mark, NodeNo, Reply};
+use druid_segment_id::Name;
 use std::alloc::{AllocError, Global};
 use std::marker::Model;
 

@@ -1,8 +1,8 @@
 //! Facts that hold of all entries and all replies.
 ghost use Rattle.std.specs.Prelude.{◌≡◌, ◌≢◌, ◌⊎◌, List};
 ghost use Rattle.std.specs.declared.cmp.Ordering.TheVariants.{Less, Greater};
-ghost use Rattle.druid_shard.specs.Mark.{mark_cmp};
-ghost use Rattle.druid_shard.specs.declared.reply.Body.{Body};
+ghost use Rattle.druid_segment_descriptor.specs.Mark.{mark_cmp};
+ghost use Rattle.druid_segment_descriptor.specs.declared.reply.Body.{Body};
 ghost use Rattle.druid_inventory.specs.Entry.{Entry};
 ghost use Rattle.druid_inventory.specs.Join.{IsJoin, RefusesJoin};
 ghost use Rattle.druid_inventory.specs.Step.{Steps, Refuses};

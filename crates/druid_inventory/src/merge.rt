@@ -1,15 +1,15 @@
 //! A set with what goes out of it and what comes into it: each part of it moves once for those that
 //! go, and once for those that come. Nothing fails here.
 ghost use Rattle.std.specs.Prelude.{◌≡◌, ◌↔◌, ◌⊎◌, ◌+◌, ◌≤◌, List, Contains, IfOk, length, vec_len, vec_capacity};
-ghost use Rattle.druid_segid.specs.Identifier.{identifier_text};
-ghost use Rattle.druid_shard.specs.Described.{Described};
-ghost use Rattle.druid_shard.specs.Reply.{AreSorted};
-ghost use Rattle.druid_shard.specs.Replay.{IsSegmentSet};
+ghost use Rattle.druid_segment_id.specs.Identifier.{identifier_text};
+ghost use Rattle.druid_segment_descriptor.specs.Described.{Described};
+ghost use Rattle.druid_segment_descriptor.specs.Reply.{AreSorted};
+ghost use Rattle.druid_segment_descriptor.specs.Replay.{IsSegmentSet};
 ghost use Rattle.druid_inventory.specs.Judged.{AreLast};
 ghost use Rattle.druid_inventory.specs.Merged.{exchanged, IsLoaded, NoneIs};
 
 use crate::strict::segment_of;
-use druid_shard::{Change, Descriptor, find_segment};
+use druid_segment_descriptor::{Change, Descriptor, find_segment};
 use std::alloc::{AllocError, Global};
 
 // Copies the segments that the changes at these places load, which rise.

@@ -3,7 +3,7 @@ ghost use Rattle.std.specs.Prelude.{◌≡◌};
 ghost use Rattle.druid_inventory.specs.Plan.{outcome_of};
 
 use crate::Outcome;
-use druid_shard::{Change, Descriptor, Mark};
+use druid_segment_descriptor::{Change, Descriptor, Mark};
 
 // What becomes of an entry.
 #[derive(Clone, Copy)]

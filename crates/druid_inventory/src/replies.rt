@@ -1,12 +1,12 @@
 //! Replies that tell a set of segments: whole, or a page of it.
 ghost use Rattle.std.specs.Prelude.{◌≡◌, ◌≤◌, ◌<◌, length, IfOk};
-ghost use Rattle.druid_shard.specs.Reply.{max_page};
-ghost use Rattle.druid_shard.specs.Replay.{IsSegmentSet};
-ghost use Rattle.druid_shard.specs.declared.reply.Body.TheVariants.{Snapshot, Page};
-ghost use Rattle.druid_pages.specs.Pages.{page_at, pages_in};
+ghost use Rattle.druid_segment_descriptor.specs.Reply.{max_page};
+ghost use Rattle.druid_segment_descriptor.specs.Replay.{IsSegmentSet};
+ghost use Rattle.druid_segment_descriptor.specs.declared.reply.Body.TheVariants.{Snapshot, Page};
+ghost use Rattle.druid_sync_pages.specs.Pages.{page_at, pages_in};
 
-use druid_pages::{page_of, pages_of};
-use druid_shard::{Descriptor, Mark, Reply, ReplyFault};
+use druid_segment_descriptor::{Descriptor, Mark, Reply, ReplyFault};
+use druid_sync_pages::{page_of, pages_of};
 use std::alloc::{AllocError, Global};
 
 // The snapshot of a set.

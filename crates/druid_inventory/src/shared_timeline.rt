@@ -5,8 +5,8 @@ ghost use Rattle.std.specs.Prelude.{◌≡◌, IfOk, OnOk, OnErr};
 ghost use Rattle.druid_timeline.specs.Holding.{held_of, IsHeld, IsServed, AddsHeld, RemovesHeld};
 ghost use Rattle.druid_inventory.specs.Kept.{timeline_in};
 
-use druid_segid::{Meter, SegmentId};
-use druid_shard::{Descriptor, NodeNo};
+use druid_segment_descriptor::{Descriptor, NodeNo};
+use druid_segment_id::{Meter, SegmentId};
 use druid_timeline::Timeline;
 use std::alloc::{AllocError, Global};
 use std::marker::Model;

@@ -1,13 +1,13 @@
 //! Which changes of a set are strict, one after another.
 ghost use Rattle.std.specs.Prelude.{◌≡◌, ◌+◌, ◌<◌, ◌≤◌, Some, MatchResult, length, option_copied, take, List};
 ghost use Rattle.std.specs.List.{insert};
-ghost use Rattle.druid_shard.specs.Described.{Described};
-ghost use Rattle.druid_shard.specs.Reply.{max_changes};
-ghost use Rattle.druid_shard.specs.Replay.{IsSegmentSet, is_strict, replay_from};
+ghost use Rattle.druid_segment_descriptor.specs.Described.{Described};
+ghost use Rattle.druid_segment_descriptor.specs.Reply.{max_changes};
+ghost use Rattle.druid_segment_descriptor.specs.Replay.{IsSegmentSet, is_strict, replay_from};
 ghost use Rattle.druid_inventory.specs.Judged.{segment_of, IsHolderOf, AreLast, IsFound, noted};
 
-use druid_segid::SegmentId;
-use druid_shard::{Change, Descriptor, find_segment};
+use druid_segment_descriptor::{Change, Descriptor, find_segment};
+use druid_segment_id::SegmentId;
 use std::cmp::Ordering;
 
 // The segment that a change loads or drops.

@@ -3,15 +3,15 @@ ghost use Rattle.std.specs.Prelude.{◌≡◌, ◌↔◌, ℕ, List, Contains, I
 ghost use Rattle.std.specs.BTreeMap as tree;
 ghost use Rattle.std.specs.Ordering.{nat_cmp};
 ghost use Rattle.std.specs.Cmp.Lexicographic.{slice_cmp};
-ghost use Rattle.druid_shard.specs.Replay.{IsSegmentSet};
-ghost use Rattle.druid_shard.specs.declared.change.Change.TheVariants.{Drop};
+ghost use Rattle.druid_segment_descriptor.specs.Replay.{IsSegmentSet};
+ghost use Rattle.druid_segment_descriptor.specs.declared.change.Change.TheVariants.{Drop};
 ghost use Rattle.druid_inventory.specs.Entry.{Entry};
 ghost use Rattle.druid_inventory.specs.Timelines.{kept, AreTimelines, TakesSegment, TakesChange, AddsSegment, EditsOut, RemovesSegment, ServesThese, ServesWith};
 
 use crate::changing_timeline::ChangingTimeline;
 use crate::shared_timeline::SharedTimeline;
-use druid_segid::Name;
-use druid_shard::{Descriptor, NodeNo, find_segment};
+use druid_segment_descriptor::{Descriptor, NodeNo, find_segment};
+use druid_segment_id::Name;
 use std::alloc::{AllocError, Global};
 use std::collections::BTreeMap;
 

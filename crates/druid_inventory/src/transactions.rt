@@ -1,7 +1,7 @@
 //! Edits of the timelines of several sources, which are committed or rolled back together.
 ghost use Rattle.std.specs.Prelude.{IfOk, ◌≡◌, ℕ, List, [], None, Some, IsSome, OnOk, OnErr};
-ghost use Rattle.druid_shard.specs.Described.{Described};
-ghost use Rattle.druid_shard.specs.Replay.{IsSegmentSet, replay_from};
+ghost use Rattle.druid_segment_descriptor.specs.Described.{Described};
+ghost use Rattle.druid_segment_descriptor.specs.Replay.{IsSegmentSet, replay_from};
 ghost use Rattle.druid_inventory.specs.Entry.{Entry};
 ghost use Rattle.druid_inventory.specs.Judged.{segment_of};
 ghost use Rattle.druid_inventory.specs.Timelines.{kept, AreTimelines, ServesWith};
@@ -10,8 +10,8 @@ ghost use Rattle.druid_inventory.specs.Transactions.{edited, AreAfter, AreBefore
 use crate::shared_timeline::SharedTimeline;
 use crate::strict::segment_of;
 use crate::timelines::Timelines;
-use druid_segid::{Meter, Name};
-use druid_shard::{Change, NodeNo};
+use druid_segment_descriptor::{Change, NodeNo};
+use druid_segment_id::{Meter, Name};
 use druid_timeline::{Timeline, Transaction};
 use std::alloc::{AllocError, Global};
 use std::collections::BTreeMap;

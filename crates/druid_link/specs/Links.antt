@@ -1,8 +1,8 @@
 -- What comes back over a link.
 use Rattle.std.specs.Prelude.{ℕ, ◌+◌, ◌-◌, ◌^◌, min, List, Result, Ok, Err, Vec}
 use Rattle.std.specs.declared.alloc.Global.{Global}
-use Rattle.druid_message.specs.declared.fault.WireFault.{WireFault}
-use Rattle.druid_message.specs.declared.fault.WireFault.TheVariants.{Cut, Read, Write, BadHead, HeadTooLong, NoLength, BodyTooLong, Connect, Memory}
+use Rattle.druid_http_message.specs.declared.fault.WireFault.{WireFault}
+use Rattle.druid_http_message.specs.declared.fault.WireFault.TheVariants.{Cut, Read, Write, BadHead, HeadTooLong, NoLength, BodyTooLong, Connect, Memory}
 
 -- all bytes until the other side closed, or why there are none
 abbrev pub Came : Type 0

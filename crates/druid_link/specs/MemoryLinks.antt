@@ -1,7 +1,7 @@
 -- A link in memory, and what comes back over it.
 use Rattle.std.specs.Prelude.{◌≡◌, ◌⊎◌, ℕ, List, [], length, nat_le, unwrap_or, slice_get, if◌then◌else◌, Ok, Err, IsOk}
 use Rattle.druid_link.specs.Links.{Came, one_more, faults_after}
-use Rattle.druid_message.specs.declared.fault.WireFault.TheVariants.{Read, BodyTooLong, Memory}
+use Rattle.druid_http_message.specs.declared.fault.WireFault.TheVariants.{Read, BodyTooLong, Memory}
 use Rattle.druid_link.specs.Limits.{max_exchange}
 
 -- the replies to its first exchanges, from which exchange on it fails, how many were made (at 2^64 - 1 it stays), and how many failed

@@ -4,7 +4,7 @@ ghost use Rattle.std.specs.Prelude.{◌≡◌, ◌≤◌, ℕ, List, length, IfO
 ghost use Rattle.druid_link.specs.Limits.{max_exchange};
 ghost use Rattle.druid_link.specs.Links.{Came, came_of, IsLinkFault, faults_after};
 
-use druid_message::WireFault;
+use druid_http_message::WireFault;
 use std::alloc::Global;
 
 /// The most bytes that an exchange gives: a body and a head, each at its limit.

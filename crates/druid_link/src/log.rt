@@ -5,7 +5,7 @@ ghost use Rattle.std.specs.Prelude.{◌≡◌, List, [], ◌∷◌};
 ghost use Rattle.std.specs.Borrow.{ftrue};
 ghost use Rattle.druid_link.specs.Exchanged.{Exchanged};
 
-use druid_message::WireFault;
+use druid_http_message::WireFault;
 use std::marker::Model;
 
 // The exchanges that were made over a link, the newest first. Only proofs read it: it takes no room, and its methods do nothing

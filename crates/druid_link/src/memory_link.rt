@@ -3,7 +3,7 @@ ghost use Rattle.std.specs.Prelude.{◌≡◌, map, vec_items};
 ghost use Rattle.druid_link.specs.MemoryLinks.{fresh_link, reply_to};
 
 use crate::{Link, MAX_EXCHANGE};
-use druid_message::WireFault;
+use druid_http_message::WireFault;
 use std::alloc::Global;
 use std::marker::Model;
 

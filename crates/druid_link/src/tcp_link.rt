@@ -12,7 +12,7 @@ ghost use Rattle.druid_link.specs.TcpLinks.{IsExchanged, fresh_tcp_link, limited
 use crate::log::{Log, Note};
 use crate::timed::{Timer, receive_some, send_all};
 use crate::{Link, MAX_EXCHANGE};
-use druid_message::WireFault;
+use druid_http_message::WireFault;
 use std::alloc::Global;
 use std::io::{Read, Write};
 use std::marker::Model;

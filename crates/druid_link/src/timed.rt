@@ -6,7 +6,7 @@ ghost use Rattle.std.specs.Io.KnownBytes.{Appends, Consumes, IsAtEnd, Keeps};
 ghost use Rattle.std.specs.IoError.{error_kind};
 ghost use Rattle.druid_stream.specs.Fronts.{AppendsFront};
 
-use druid_message::WireFault;
+use druid_http_message::WireFault;
 use druid_stream::{MAX_TRIES, is_interrupted};
 use std::io::{Error, ErrorKind, Read, Write};
 use std::net::OpenStream;

@@ -3,15 +3,15 @@ use Rattle.std.proofs.Common.{◌≡◌, ◌<◌, ◌≤◌, ℕ, zero, suc, Lis
 use Rattle.std.proofs.lemmas.List.Elements.{All-head, All-tail}
 use Rattle.std.proofs.lemmas.List.{take-append-drop}
 use Rattle.std.proofs.lemmas.List.Concat.{flat_map-append}
-use Rattle.druid_rows.specs.Segment.{Segment}
+use Rattle.druid_segment_rows.specs.Segment.{Segment}
 use Rattle.druid_query.specs.Query.{Query}
 use Rattle.druid_query.specs.Asked.{Asked}
 use Rattle.druid_partial.specs.Groups.{Group, IsResult}
 use Rattle.druid_partial.specs.Partials.{kinds_of}
 use Rattle.druid_node.specs.Answers.{missing}
-use Rattle.druid_scan.specs.Once.{segment_named, counted_in, counted_of, counted_groups}
-use Rattle.druid_scan.specs.Rows.{counted_by}
-use Rattle.druid_scan.specs.Told.{Slice, told_by}
+use Rattle.druid_partial_scan.specs.Once.{segment_named, counted_in, counted_of, counted_groups}
+use Rattle.druid_partial_scan.specs.Rows.{counted_by}
+use Rattle.druid_partial_scan.specs.Told.{Slice, told_by}
 use Rattle.druid_node.specs.Placed.{Placed, counted_at}
 use Rattle.std.specs.List.{flat_map}
 

@@ -1,15 +1,15 @@
 -- What a file gives.
 use Rattle.std.proofs.Common.{◌≡◌, ℕ, Bool, true, false, cond, List, Option, Some, None, Result, Ok, Err, IsOk, IfOk, IfErr, Vec, Global, refl, sym, ap, ◌∙◌, subst, inl, inr, bytes_eq}
 use Rattle.std.proofs.lemmas.Slice.Eq.{bytes_eq-Decides}
-use Rattle.druid_rows.specs.Segment.{Segment}
-use Rattle.druid_segfile.specs.Reading.{GivesInMemory, segment_at}
-use Rattle.druid_segfile.specs.declared.fault.FileFault.{FileFault}
-use Rattle.druid_segfile.specs.declared.fault.FileFault.TheVariants as file
-use Rattle.druid_segfile.proofs.FrontLemmas.{within_own}
-use Rattle.druid_rows.specs.Segment.{max_text}
+use Rattle.druid_segment_rows.specs.Segment.{Segment}
+use Rattle.druid_segment_file.specs.Reading.{GivesInMemory, segment_at}
+use Rattle.druid_segment_file.specs.declared.fault.FileFault.{FileFault}
+use Rattle.druid_segment_file.specs.declared.fault.FileFault.TheVariants as file
+use Rattle.druid_segment_file.proofs.FrontLemmas.{within_own}
+use Rattle.druid_segment_rows.specs.Segment.{max_text}
 use Rattle.druid_folder.specs.Folder.{bytes_read, faults_at, faults_after}
 use Rattle.druid_folder.specs.declared.fault.StoreFault.{StoreFault}
-use Rattle.druid_shard.specs.Mark.{Point}
+use Rattle.druid_segment_descriptor.specs.Mark.{Point}
 use Rattle.druid_node.specs.Seen.{RefusesLoad}
 use Rattle.druid_node.specs.Files.{file_name, named, file_at, reported_as, size_of, RefusesFile, IsOfFile, RefusesBytes, RefusesFound, FailsRead, IsDecoded, RefusesDecode, faults_after_fault, faults_after_load}
 use Rattle.druid_node.specs.declared.fault.NodeFault.{NodeFault}

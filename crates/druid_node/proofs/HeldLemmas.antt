@@ -10,20 +10,20 @@ use Rattle.std.specs.declared.cmp.Ordering.TheVariants.{Less, Equal, Greater}
 use Rattle.std.proofs.lemmas.Bool.{cases_Bool, false≢true, not-true}
 use Rattle.std.proofs.lemmas.List.Elements.{All-nil, All-cons, All-head, All-tail}
 use Rattle.std.proofs.lemmas.Option.{same_Some}
-use Rattle.druid_segid.specs.Identifier.{Identifier, same_identifier, identifier_cmp}
-use Rattle.druid_segid.specs.IdentifierLaws.{identifier_cmp-ties, same_identifier-true}
-use Rattle.druid_segid.proofs.EqualLemmas.{same_identifier-decides}
-use Rattle.druid_shard.specs.Described.{Described, IsDescribed, same_described}
-use Rattle.druid_shard.specs.Replay.{IsSegmentSet, shares_identifier, with_segment, without_segment, is_strict, has_room}
-use Rattle.druid_shard.specs.declared.change.Change.TheVariants.{Load, Drop}
-use Rattle.druid_shard.proofs.DescribedLemmas.{same_described-decides}
+use Rattle.druid_segment_id.specs.Identifier.{Identifier, same_identifier, identifier_cmp}
+use Rattle.druid_segment_id.specs.IdentifierLaws.{identifier_cmp-ties, same_identifier-true}
+use Rattle.druid_segment_id.proofs.EqualLemmas.{same_identifier-decides}
+use Rattle.druid_segment_descriptor.specs.Described.{Described, IsDescribed, same_described}
+use Rattle.druid_segment_descriptor.specs.Replay.{IsSegmentSet, shares_identifier, with_segment, without_segment, is_strict, has_room}
+use Rattle.druid_segment_descriptor.specs.declared.change.Change.TheVariants.{Load, Drop}
+use Rattle.druid_segment_descriptor.proofs.DescribedLemmas.{same_described-decides}
 use Rattle.druid_base.proofs.MemberLemmas.{Contains-nil, Contains-cons, Contains-later}
-use Rattle.druid_shard.proofs.ReplayLemmas.{AreInOrder, in_order, after-set}
-use Rattle.druid_changes.specs.Segments.{IsEntry}
-use Rattle.druid_changes.proofs.SetLemmas as sets
-use Rattle.druid_rows.specs.Segment.{Segment}
+use Rattle.druid_segment_descriptor.proofs.ReplayLemmas.{AreInOrder, in_order, after-set}
+use Rattle.druid_sync_history.specs.Segments.{IsEntry}
+use Rattle.druid_sync_history.proofs.SetLemmas as sets
+use Rattle.druid_segment_rows.specs.Segment.{Segment}
 use Rattle.druid_node.specs.State.{descriptor_of, descriptors_of, HoldsMore, HoldsLess}
-use Rattle.druid_scan.specs.Once.{segment_named}
+use Rattle.druid_partial_scan.specs.Once.{segment_named}
 use Rattle.druid_node.specs.Held.{IsWhole, IsHeld, with_held, without_held}
 
 -- two identifiers that tie are one

@@ -8,15 +8,15 @@ use Rattle.std.proofs.lemmas.Bool.{cases_Bool, false≢true}
 use Rattle.std.proofs.lemmas.Cmp.{nat_list_cmp_total}
 use Rattle.std.proofs.lemmas.List.{get_or-map, length-map}
 use Rattle.std.proofs.lemmas.Option.{get_or_from_slice_get, slice_get_within}
-use Rattle.druid_segid.specs.Identifier.{Identifier, identifier_text, same_identifier, parts_cmp, identifier_cmp}
-use Rattle.druid_segid.specs.IdentifierLaws.{identifier_cmp-ties, same_identifier-true}
-use Rattle.druid_segid.proofs.EqualLemmas.{same_identifier-decides}
-use Rattle.druid_shard.specs.Reply.{IsBefore}
-use Rattle.druid_shard.specs.Replay.{StandsAt, BelongsAt}
-use Rattle.druid_shard.proofs.PlaceLemmas.{Precedes}
-use Rattle.druid_shard.proofs.ReplayLemmas.{AreInOrder, first_before, rest_in_order}
-use Rattle.druid_rows.specs.Segment.{Segment}
-use Rattle.druid_scan.specs.Once.{segment_named}
+use Rattle.druid_segment_id.specs.Identifier.{Identifier, identifier_text, same_identifier, parts_cmp, identifier_cmp}
+use Rattle.druid_segment_id.specs.IdentifierLaws.{identifier_cmp-ties, same_identifier-true}
+use Rattle.druid_segment_id.proofs.EqualLemmas.{same_identifier-decides}
+use Rattle.druid_segment_descriptor.specs.Reply.{IsBefore}
+use Rattle.druid_segment_descriptor.specs.Replay.{StandsAt, BelongsAt}
+use Rattle.druid_segment_descriptor.proofs.PlaceLemmas.{Precedes}
+use Rattle.druid_segment_descriptor.proofs.ReplayLemmas.{AreInOrder, first_before, rest_in_order}
+use Rattle.druid_segment_rows.specs.Segment.{Segment}
+use Rattle.druid_partial_scan.specs.Once.{segment_named}
 use Rattle.druid_node.specs.State.{descriptor_of, descriptors_of}
 use Rattle.druid_node.specs.Held.{with_held, without_held}
 use Rattle.druid_node.proofs.RowLemmas.{have_own}

@@ -1,23 +1,23 @@
 -- What a node holds has no identifier twice, so its pieces tell each row once.
 use Rattle.std.proofs.Common.{Option, ◌≡◌, List, [], ◌∷◌, Some, None, refl, ap}
-use Rattle.druid_rows.specs.Segment.{Segment}
+use Rattle.druid_segment_rows.specs.Segment.{Segment}
 use Rattle.druid_query.specs.Query.{Query}
 use Rattle.druid_query.specs.Asked.{Asked, StandApart}
 use Rattle.druid_partial.specs.Groups.{Group, IsResult}
 use Rattle.druid_partial.specs.Partials.{kinds_of}
-use Rattle.druid_scan.proofs.OnceLemmas as once
+use Rattle.druid_partial_scan.proofs.OnceLemmas as once
 use Rattle.druid_node.specs.State.{descriptor_of, descriptors_of}
-use Rattle.druid_scan.specs.Once.{segment_named, HaveOwnSegments}
+use Rattle.druid_partial_scan.specs.Once.{segment_named, HaveOwnSegments}
 use Rattle.druid_node.proofs.HeldLemmas.{found_each, found_id}
-use Rattle.druid_shard.specs.Reply.{IsBefore}
-use Rattle.druid_shard.specs.Replay.{IsSegmentSet}
+use Rattle.druid_segment_descriptor.specs.Reply.{IsBefore}
+use Rattle.druid_segment_descriptor.specs.Replay.{IsSegmentSet}
 use Rattle.druid_base.proofs.MemberLemmas.{Contains-map_back}
-use Rattle.druid_shard.proofs.ReplayLemmas.{AreInOrder, in_order, first_before, rest_in_order}
-use Rattle.druid_shard.proofs.SortedLemmas.{not_before_itself}
-use Rattle.druid_segid.specs.Identifier.{identifier_text}
+use Rattle.druid_segment_descriptor.proofs.ReplayLemmas.{AreInOrder, in_order, first_before, rest_in_order}
+use Rattle.druid_segment_descriptor.proofs.SortedLemmas.{not_before_itself}
+use Rattle.druid_segment_id.specs.Identifier.{identifier_text}
 use Rattle.std.specs.List.{Contains}
 use Rattle.std.proofs.lemmas.List.Elements.{All-contains, All-contains_itself}
-use Rattle.druid_scan.specs.Once.{counted_groups, counted_once}
+use Rattle.druid_partial_scan.specs.Once.{counted_groups, counted_once}
 
 -- in the order of their identifiers none stands twice
 pub have_own : (held : List Segment) → AreInOrder (descriptors_of held) → HaveOwnSegments held

@@ -3,27 +3,27 @@ use Rattle.std.proofs.Common.{length-append, ◌≡◌, ◌<◌, ◌+◌, ℕ, B
 use Rattle.std.specs.Io.KnownBytes.{Keeps}
 use Rattle.std.specs.Option.{option_or}
 use Rattle.std.proofs.lemmas.Option.{same_Some}
-use Rattle.druid_segid.specs.Identifier.{Identifier}
-use Rattle.druid_shard.specs.Described.{Described}
-use Rattle.druid_shard.specs.Replay.{is_strict, has_room}
-use Rattle.druid_changes.specs.declared.fault.HistoryFault.{HistoryFault}
-use Rattle.druid_changes.specs.declared.fault.HistoryFault.TheVariants.{Served, NotServed, Full, CountAtEnd}
-use Rattle.druid_message.specs.Requests.{RequestValue}
-use Rattle.druid_wire.specs.Messages.{IsRequest, RequestSays, HasFault}
-use Rattle.druid_wire.specs.Served.{refusal_text, IsSent, IsCutShort}
-use Rattle.druid_message.specs.declared.fault.WireFault.{WireFault}
-use Rattle.druid_wire.proofs.ServeLemmas.{WasRead, served, unsent, refused, unanswered}
+use Rattle.druid_segment_id.specs.Identifier.{Identifier}
+use Rattle.druid_segment_descriptor.specs.Described.{Described}
+use Rattle.druid_segment_descriptor.specs.Replay.{is_strict, has_room}
+use Rattle.druid_sync_history.specs.declared.fault.HistoryFault.{HistoryFault}
+use Rattle.druid_sync_history.specs.declared.fault.HistoryFault.TheVariants.{Served, NotServed, Full, CountAtEnd}
+use Rattle.druid_http_message.specs.Requests.{RequestValue}
+use Rattle.druid_http_wire.specs.Messages.{IsRequest, RequestSays, HasFault}
+use Rattle.druid_http_wire.specs.Served.{refusal_text, IsSent, IsCutShort}
+use Rattle.druid_http_message.specs.declared.fault.WireFault.{WireFault}
+use Rattle.druid_http_wire.proofs.ServeLemmas.{WasRead, served, unsent, refused, unanswered}
 use Rattle.druid_node.specs.declared.fault.NodeFault.{NodeFault}
 use Rattle.druid_node.specs.declared.fault.NodeFault.TheVariants as faults
 use Rattle.std.specs.declared.cmp.Ordering.{Ordering}
 use Rattle.std.specs.declared.cmp.Ordering.TheVariants.{Less, Equal, Greater}
 use Rattle.std.specs.Ordering.{ordering_then, ordering_reverse}
 use Rattle.std.specs.Cmp.{nat_cmp_is}
-use Rattle.druid_shard.specs.Mark.{Point, mark_cmp}
-use Rattle.druid_shard.specs.Orders.{mark_cmp-total}
-use Rattle.druid_shard.specs.declared.change.Change.{Change}
-use Rattle.druid_shard.specs.declared.change.Change.TheVariants.{Load, Drop}
-use Rattle.druid_changes.specs.Kept.{Kept, IsKept, last_count, refusal}
+use Rattle.druid_segment_descriptor.specs.Mark.{Point, mark_cmp}
+use Rattle.druid_segment_descriptor.specs.Orders.{mark_cmp-total}
+use Rattle.druid_segment_descriptor.specs.declared.change.Change.{Change}
+use Rattle.druid_segment_descriptor.specs.declared.change.Change.TheVariants.{Load, Drop}
+use Rattle.druid_sync_history.specs.Kept.{Kept, IsKept, last_count, refusal}
 use Rattle.druid_node.specs.State.{State, IsState, Freezes, Records, tombstone_of, Refuses, RefusesToDrop, RefusesToCover}
 use Rattle.druid_node.proofs.StateLemmas.{freezes-kept, freezes-count}
 use Rattle.druid_node.specs.Seen.{mark_of, AreAtMark, IsStale, IsAtLeast, IsLoadRefusal, RefusesAsSeen, RefusesLoad, RefusesDrop, RefusesTombstone, AnswersFrom, AnswersSince, IsServedAsSeen, IsPassedBy, IsUnserved}

@@ -4,20 +4,20 @@ use Rattle.std.specs.Bool.{⊤}
 use Rattle.std.specs.List.{All}
 use Rattle.std.specs.Option.{is_some, option_map}
 use Rattle.std.proofs.lemmas.Option.{same_Some}
-use Rattle.druid_segid.specs.Identifier.{Identifier}
-use Rattle.druid_shard.specs.Described.{Described}
-use Rattle.druid_shard.specs.Replay.{with_segment, without_segment, is_strict, has_room, after}
-use Rattle.druid_shard.specs.Reply.{max_changes}
-use Rattle.druid_shard.proofs.ReplayLemmas.{AreInOrder, in_order}
-use Rattle.druid_shard.specs.declared.change.Change.{Change}
-use Rattle.druid_shard.specs.declared.change.Change.TheVariants.{Load, Drop}
-use Rattle.druid_changes.specs.Kept.{Kept, StandsFor, IsKept, described_named, refusal}
-use Rattle.druid_changes.specs.declared.fault.HistoryFault.{HistoryFault}
-use Rattle.druid_changes.specs.declared.fault.HistoryFault.TheVariants.{Served, NotServed, Full, CountAtEnd, Memory}
-use Rattle.druid_changes.proofs.HistoryLemmas.{no_refusal, stands-more}
-use Rattle.druid_rows.specs.Segment.{Segment, IsSegment, HaveWords}
+use Rattle.druid_segment_id.specs.Identifier.{Identifier}
+use Rattle.druid_segment_descriptor.specs.Described.{Described}
+use Rattle.druid_segment_descriptor.specs.Replay.{with_segment, without_segment, is_strict, has_room, after}
+use Rattle.druid_segment_descriptor.specs.Reply.{max_changes}
+use Rattle.druid_segment_descriptor.proofs.ReplayLemmas.{AreInOrder, in_order}
+use Rattle.druid_segment_descriptor.specs.declared.change.Change.{Change}
+use Rattle.druid_segment_descriptor.specs.declared.change.Change.TheVariants.{Load, Drop}
+use Rattle.druid_sync_history.specs.Kept.{Kept, StandsFor, IsKept, described_named, refusal}
+use Rattle.druid_sync_history.specs.declared.fault.HistoryFault.{HistoryFault}
+use Rattle.druid_sync_history.specs.declared.fault.HistoryFault.TheVariants.{Served, NotServed, Full, CountAtEnd, Memory}
+use Rattle.druid_sync_history.proofs.HistoryLemmas.{no_refusal, stands-more}
+use Rattle.druid_segment_rows.specs.Segment.{Segment, IsSegment, HaveWords}
 use Rattle.druid_node.specs.State.{State, IsState, descriptor_of, descriptors_of, with_rows, HoldsMore, HoldsLess, Records, Takes, Leaves, Freezes}
-use Rattle.druid_scan.specs.Once.{segment_named}
+use Rattle.druid_partial_scan.specs.Once.{segment_named}
 use Rattle.druid_node.specs.Held.{IsWhole, IsHeld, with_held, without_held}
 use Rattle.druid_node.proofs.HeldLemmas.{absent, with_held-descriptors, without_held-descriptors, All-with_held, All-without_held, not_there, holds_more, holds_less, undone, found_id, found_each, found_there}
 use Rattle.druid_node.proofs.TombstoneLemmas.{kept_set, with_rows-strict, with_rows-room, with_rows-more, with_rows-over, with_rows-less, with_rows-under, named_id, named_ordinary, named_tombstone, named_held}

@@ -7,18 +7,18 @@ use Rattle.std.proofs.lemmas.Bool.{cases_Bool, lt-ltb, or_parts, not-true}
 use Rattle.std.proofs.lemmas.List.Elements.{All-head, All-tail, All-filter, All-weaker}
 use Rattle.std.proofs.lemmas.List.Kept.{AllPairs-filter}
 use Rattle.std.proofs.lemmas.Option.{same_Some}
-use Rattle.druid_segid.specs.Identifier.{Identifier, identifier_text, same_identifier}
-use Rattle.druid_segid.specs.IdentifierLaws.{same_identifier-true}
-use Rattle.druid_shard.specs.Described.{Described, same_described}
-use Rattle.druid_shard.specs.Reply.{IsBefore, max_segments}
-use Rattle.druid_shard.specs.Replay.{IsSegmentSet, shares_identifier, is_before, with_segment, without_segment, is_strict, has_room}
-use Rattle.druid_shard.specs.declared.change.Change.TheVariants.{Load}
-use Rattle.druid_shard.proofs.DescribedLemmas.{same_described-decides}
-use Rattle.druid_shard.proofs.ReplayLemmas.{AreInOrder, in_order, are_sorted, first_before, rest_in_order, before_trans, is_before-true, replay_from-set}
-use Rattle.druid_shard.proofs.SortedLemmas.{not_before_itself}
-use Rattle.druid_changes.specs.Kept.{Kept, IsKept, described_named}
-use Rattle.druid_rows.specs.Segment.{Segment}
-use Rattle.druid_scan.specs.Once.{segment_named}
+use Rattle.druid_segment_id.specs.Identifier.{Identifier, identifier_text, same_identifier}
+use Rattle.druid_segment_id.specs.IdentifierLaws.{same_identifier-true}
+use Rattle.druid_segment_descriptor.specs.Described.{Described, same_described}
+use Rattle.druid_segment_descriptor.specs.Reply.{IsBefore, max_segments}
+use Rattle.druid_segment_descriptor.specs.Replay.{IsSegmentSet, shares_identifier, is_before, with_segment, without_segment, is_strict, has_room}
+use Rattle.druid_segment_descriptor.specs.declared.change.Change.TheVariants.{Load}
+use Rattle.druid_segment_descriptor.proofs.DescribedLemmas.{same_described-decides}
+use Rattle.druid_segment_descriptor.proofs.ReplayLemmas.{AreInOrder, in_order, are_sorted, first_before, rest_in_order, before_trans, is_before-true, replay_from-set}
+use Rattle.druid_segment_descriptor.proofs.SortedLemmas.{not_before_itself}
+use Rattle.druid_sync_history.specs.Kept.{Kept, IsKept, described_named}
+use Rattle.druid_segment_rows.specs.Segment.{Segment}
+use Rattle.druid_partial_scan.specs.Once.{segment_named}
 use Rattle.druid_node.specs.State.{descriptor_of, descriptors_of, with_rows}
 
 -- ---- the set

@@ -1,12 +1,12 @@
 -- What a node answers to a query.
 use Rattle.std.specs.Prelude.{◌≡◌, List, filter, Bool, not, is_some}
-use Rattle.druid_rows.specs.Segment.{Segment}
+use Rattle.druid_segment_rows.specs.Segment.{Segment}
 use Rattle.druid_query.specs.Asked.{Asked}
 use Rattle.druid_query.specs.SubQuery.{SubQuery}
 use Rattle.druid_partial.specs.Answer.{Answer}
 use Rattle.druid_partial.specs.Groups.{IsResult}
 use Rattle.druid_partial.specs.Partials.{kinds_of, IsPartialFor}
-use Rattle.druid_scan.specs.Once.{segment_named, counted_groups}
+use Rattle.druid_partial_scan.specs.Once.{segment_named, counted_groups}
 
 -- the segment of the piece is not held
 abbrev pub is_missing : List Segment → Asked → Bool

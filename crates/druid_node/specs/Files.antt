@@ -1,12 +1,12 @@
 -- What a file gives a node.
 use Rattle.std.specs.Prelude.{◌≡◌, ◌⊎◌, ◌++◌, ⊤, ℕ, List, Vec, codes, length, bytes_eq, Option, Some, None, Result, Ok, Err, IsOk, if◌then◌else◌}
 use Rattle.std.specs.declared.alloc.Global.{Global}
-use Rattle.druid_segid.specs.Identifier.{Identifier, identifier_text}
-use Rattle.druid_rows.specs.Segment.{Segment}
-use Rattle.druid_shard.specs.Mark.{Point}
-use Rattle.druid_segfile.specs.Reading.{segment_at}
-use Rattle.druid_segfile.specs.declared.fault.FileFault.{FileFault}
-use Rattle.druid_segfile.specs.declared.fault.FileFault.TheVariants as file
+use Rattle.druid_segment_id.specs.Identifier.{Identifier, identifier_text}
+use Rattle.druid_segment_rows.specs.Segment.{Segment}
+use Rattle.druid_segment_descriptor.specs.Mark.{Point}
+use Rattle.druid_segment_file.specs.Reading.{segment_at}
+use Rattle.druid_segment_file.specs.declared.fault.FileFault.{FileFault}
+use Rattle.druid_segment_file.specs.declared.fault.FileFault.TheVariants as file
 use Rattle.druid_folder.specs.Folder.{bytes_read, faults_at}
 use Rattle.druid_folder.specs.declared.fault.StoreFault.{StoreFault}
 use Rattle.druid_folder.specs.declared.fault.StoreFault.TheVariants as store

@@ -1,11 +1,11 @@
 -- How a node keeps the segments that it holds. Only proofs and private functions use this.
 use Rattle.std.specs.Prelude.{List, [], ◌∷◌, All, if◌then◌else◌}
 use Rattle.std.specs.Ordering.{match_ordering}
-use Rattle.druid_segid.specs.Identifier.{Identifier, same_identifier, identifier_cmp}
-use Rattle.druid_shard.specs.Described.{IsDescribed}
-use Rattle.druid_shard.specs.Replay.{IsSegmentSet}
-use Rattle.druid_rows.specs.Segment.{Segment, IsSegment, HaveWords}
-use Rattle.druid_changes.specs.Kept.{Kept}
+use Rattle.druid_segment_id.specs.Identifier.{Identifier, same_identifier, identifier_cmp}
+use Rattle.druid_segment_descriptor.specs.Described.{IsDescribed}
+use Rattle.druid_segment_descriptor.specs.Replay.{IsSegmentSet}
+use Rattle.druid_segment_rows.specs.Segment.{Segment, IsSegment, HaveWords}
+use Rattle.druid_sync_history.specs.Kept.{Kept}
 use Rattle.druid_node.specs.State.{State, descriptors_of}
 
 -- what a segment that is held keeps

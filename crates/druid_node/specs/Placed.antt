@@ -1,10 +1,10 @@
 -- Pieces by the places that their segments have among those that are held. Only private functions use this.
 use Rattle.std.specs.Prelude.{ℕ, ◌<◌, List, length, slice_get}
 use Rattle.druid_time.specs.Extent.{Extent}
-use Rattle.druid_rows.specs.Segment.{Segment}
+use Rattle.druid_segment_rows.specs.Segment.{Segment}
 use Rattle.druid_query.specs.Query.{Query}
 use Rattle.druid_partial.specs.Groups.{Group}
-use Rattle.druid_scan.specs.Once.{counted_in}
+use Rattle.druid_partial_scan.specs.Once.{counted_in}
 
 -- a piece of the segment at a place
 abbrev pub Placed : Type 0

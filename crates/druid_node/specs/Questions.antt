@@ -1,10 +1,10 @@
 -- What a request asks of a node's state, and what an answer is made of. Only proofs and private functions use this.
 use Rattle.std.specs.Prelude.{◌≡◌, ◌⊎◌, ⊤, ℕ, List, Some}
 use Rattle.std.specs.Arc.{arc_value}
-use Rattle.druid_shard.specs.Mark.{Point}
-use Rattle.druid_sync.specs.Back.{IsReadBack}
-use Rattle.druid_sync.specs.Written.{reply_text}
-use Rattle.druid_wire.specs.Served.{Tells, IsOutOfMemory}
+use Rattle.druid_segment_descriptor.specs.Mark.{Point}
+use Rattle.druid_sync_text.specs.Back.{IsReadBack}
+use Rattle.druid_sync_text.specs.Written.{reply_text}
+use Rattle.druid_http_wire.specs.Served.{Tells, IsOutOfMemory}
 use Rattle.druid_node.specs.State.{State}
 use Rattle.druid_node.specs.Routes.{AnswersFound, AnswersSub}
 use Rattle.druid_node.specs.Seen.{AreAtMark}

@@ -1,14 +1,14 @@
 -- What a node answers to a request.
 use Rattle.std.specs.Prelude.{◌≡◌, ◌≢◌, ◌⊎◌, IsSome, ℕ, Bool, true, false, List, codes, bytes_eq, Option, Some, None, Ok, Err, if◌then◌else◌}
-use Rattle.druid_shard.specs.declared.change.Ask.{Ask}
-use Rattle.druid_shard.specs.declared.change.Change.{Change}
-use Rattle.druid_shard.specs.declared.reply.Body.{Body}
-use Rattle.druid_changes.specs.Kept.{Kept, StandsFor, frozen_count}
-use Rattle.druid_changes.specs.Answer.{answer}
-use Rattle.druid_sync.specs.Asks.{ask_at}
-use Rattle.druid_sync.specs.Back.{IsReadBack}
-use Rattle.druid_sync.specs.Written.{reply_text}
-use Rattle.druid_rows.specs.Segment.{Segment}
+use Rattle.druid_segment_descriptor.specs.declared.change.Ask.{Ask}
+use Rattle.druid_segment_descriptor.specs.declared.change.Change.{Change}
+use Rattle.druid_segment_descriptor.specs.declared.reply.Body.{Body}
+use Rattle.druid_sync_history.specs.Kept.{Kept, StandsFor, frozen_count}
+use Rattle.druid_sync_history.specs.Answer.{answer}
+use Rattle.druid_sync_text.specs.Asks.{ask_at}
+use Rattle.druid_sync_text.specs.Back.{IsReadBack}
+use Rattle.druid_sync_text.specs.Written.{reply_text}
+use Rattle.druid_segment_rows.specs.Segment.{Segment}
 use Rattle.druid_query.specs.Read.{IsReadBy}
 use Rattle.druid_query.specs.SubQuery.{SubQuery, subquery_at}
 use Rattle.druid_query.specs.declared.fault.QueryFault.{QueryFault}
@@ -16,8 +16,8 @@ use Rattle.druid_query.specs.declared.fault.QueryFault.TheVariants.{Memory}
 use Rattle.druid_query.specs.Refused.{refusal_text}
 use Rattle.druid_partial.specs.Answer.{Answer}
 use Rattle.druid_partial_text.specs.Answers.{answer_text}
-use Rattle.druid_message.specs.Requests.{RequestValue, path_of, parameters_of}
-use Rattle.druid_wire.specs.Served.{Tells, Allows, Gets, IsOutOfMemory}
+use Rattle.druid_http_message.specs.Requests.{RequestValue, path_of, parameters_of}
+use Rattle.druid_http_wire.specs.Served.{Tells, Allows, Gets, IsOutOfMemory}
 use Rattle.druid_node.specs.State.{State}
 use Rattle.druid_node.specs.Answers.{IsAnswerOf}
 use Rattle.druid_node.specs.declared.routes.Route.{Route}

@@ -1,17 +1,17 @@
 -- What was seen of a node: a caller keeps the mark of the last state that answered it.
 use Rattle.std.specs.Prelude.{◌≡◌, ◌≢◌, ◌⊎◌, ⊤, ℕ, List, Option, Some, IfSome}
 use Rattle.std.specs.declared.cmp.Ordering.TheVariants.{Less, Greater}
-use Rattle.druid_segid.specs.Identifier.{Identifier}
-use Rattle.druid_shard.specs.Described.{Described}
-use Rattle.druid_shard.specs.Mark.{Point, mark_cmp}
-use Rattle.druid_changes.specs.Kept.{IsKept, described_named}
-use Rattle.druid_changes.specs.declared.fault.HistoryFault.{HistoryFault}
-use Rattle.druid_changes.specs.declared.fault.HistoryFault.TheVariants.{Served, NotServed, Full, CountAtEnd}
-use Rattle.druid_changes.specs.declared.fault.HistoryFault.TheVariants as history
-use Rattle.druid_message.specs.Requests.{RequestValue}
-use Rattle.druid_wire.specs.Messages.{IsRequest}
-use Rattle.druid_wire.specs.Served.{IsServed, FailsToServe}
-use Rattle.druid_message.specs.declared.fault.WireFault.{WireFault}
+use Rattle.druid_segment_id.specs.Identifier.{Identifier}
+use Rattle.druid_segment_descriptor.specs.Described.{Described}
+use Rattle.druid_segment_descriptor.specs.Mark.{Point, mark_cmp}
+use Rattle.druid_sync_history.specs.Kept.{IsKept, described_named}
+use Rattle.druid_sync_history.specs.declared.fault.HistoryFault.{HistoryFault}
+use Rattle.druid_sync_history.specs.declared.fault.HistoryFault.TheVariants.{Served, NotServed, Full, CountAtEnd}
+use Rattle.druid_sync_history.specs.declared.fault.HistoryFault.TheVariants as history
+use Rattle.druid_http_message.specs.Requests.{RequestValue}
+use Rattle.druid_http_wire.specs.Messages.{IsRequest}
+use Rattle.druid_http_wire.specs.Served.{IsServed, FailsToServe}
+use Rattle.druid_http_message.specs.declared.fault.WireFault.{WireFault}
 use Rattle.druid_node.specs.State.{State, IsState, Leaves, Freezes}
 use Rattle.druid_node.specs.Routes.{RespondsInTurn}
 use Rattle.druid_node.specs.declared.fault.NodeFault.{NodeFault}

@@ -1,13 +1,13 @@
 -- What a node keeps: its history, and the segments that it holds.
 use Rattle.std.specs.Prelude.{◌≡◌, ◌⊎◌, ◌↔◌, ◌++◌, true, not, List, [], ◌∷◌, map, filter, All, Contains, Option, Some, None}
-use Rattle.druid_segid.specs.Identifier.{Identifier}
-use Rattle.druid_shard.specs.Described.{Described}
-use Rattle.druid_shard.specs.declared.change.Change.{Change}
-use Rattle.druid_shard.specs.declared.change.Change.TheVariants.{Load, Drop}
-use Rattle.druid_rows.specs.Segment.{Segment, IsSegment, HaveWords}
-use Rattle.druid_scan.specs.Once.{segment_named}
-use Rattle.druid_changes.specs.Kept.{Kept, StandsFor, KeepsOrFreezes, refusal}
-use Rattle.druid_changes.specs.declared.fault.HistoryFault.TheVariants.{NotServed}
+use Rattle.druid_segment_id.specs.Identifier.{Identifier}
+use Rattle.druid_segment_descriptor.specs.Described.{Described}
+use Rattle.druid_segment_descriptor.specs.declared.change.Change.{Change}
+use Rattle.druid_segment_descriptor.specs.declared.change.Change.TheVariants.{Load, Drop}
+use Rattle.druid_segment_rows.specs.Segment.{Segment, IsSegment, HaveWords}
+use Rattle.druid_partial_scan.specs.Once.{segment_named}
+use Rattle.druid_sync_history.specs.Kept.{Kept, StandsFor, KeepsOrFreezes, refusal}
+use Rattle.druid_sync_history.specs.declared.fault.HistoryFault.TheVariants.{NotServed}
 use Rattle.druid_node.specs.declared.fault.NodeFault.{NodeFault}
 use Rattle.druid_node.specs.declared.fault.NodeFault.TheVariants as faults
 

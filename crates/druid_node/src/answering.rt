@@ -7,14 +7,14 @@ ghost use Rattle.druid_partial.specs.Partials.{kinds_of, IsPartialFor};
 ghost use Rattle.druid_query.specs.Query.{Query};
 ghost use Rattle.druid_node.specs.Answers.{missing, IsAnswerOf};
 ghost use Rattle.druid_node.specs.Placed.{Placed, counted_at, IsWithin};
-ghost use Rattle.druid_scan.specs.Once.{counted_groups};
-ghost use Rattle.druid_scan.specs.Told.{told_by};
+ghost use Rattle.druid_partial_scan.specs.Once.{counted_groups};
+ghost use Rattle.druid_partial_scan.specs.Told.{told_by};
 
 use crate::held::Held;
 use druid_partial::{Partial, merge};
+use druid_partial_scan::{Slice, partial_of_slices};
 use druid_partial_text::NodeAnswer;
 use druid_query::{Query, SegmentSlice, SubQuery};
-use druid_scan::{Slice, partial_of_slices};
 use druid_time::Interval;
 use std::alloc::{AllocError, Global};
 use std::thread::{Threads, join};

@@ -1,19 +1,19 @@
 //! What an answer is made of. No state is at hand where it is made.
 ghost use Rattle.std.specs.Prelude.{◌≡◌, IfOk, IfErr, OnErr};
-ghost use Rattle.druid_sync.specs.Back.{IsReadBack};
-ghost use Rattle.druid_sync.specs.Written.{reply_text};
-ghost use Rattle.druid_wire.specs.Served.{Tells};
+ghost use Rattle.druid_sync_text.specs.Back.{IsReadBack};
+ghost use Rattle.druid_sync_text.specs.Written.{reply_text};
+ghost use Rattle.druid_http_wire.specs.Served.{Tells};
 ghost use Rattle.druid_partial_text.specs.Answers.{answer_text};
 ghost use Rattle.druid_node.specs.Questions.{IsMadeOf, IsUnmade};
 
 use crate::NodeFault;
 use crate::answering::{answer_in_parts, answer_of};
 use crate::held::Held;
+use druid_http_wire::Response;
 use druid_partial_text::{NodeAnswer, node_answer_text};
 use druid_query::SubQuery;
-use druid_shard::Reply;
-use druid_sync::reply_text;
-use druid_wire::Response;
+use druid_segment_descriptor::Reply;
+use druid_sync_text::reply_text;
 use http::StatusCode;
 use std::alloc::Global;
 use std::sync::Arc;

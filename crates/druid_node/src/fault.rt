@@ -2,10 +2,10 @@
 ghost use Rattle.std.specs.Prelude.{◌≡◌};
 ghost use Rattle.druid_node.specs.declared.fault.NodeFault.TheVariants.{Memory};
 
-use druid_changes::HistoryFault;
-use druid_message::WireFault;
-use druid_segfile::FileFault;
-use druid_shard::Mark;
+use druid_http_message::WireFault;
+use druid_segment_descriptor::Mark;
+use druid_segment_file::FileFault;
+use druid_sync_history::HistoryFault;
 use std::alloc::{AllocError, AllocFailed};
 use thiserror::Error;
 

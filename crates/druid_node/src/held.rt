@@ -4,15 +4,15 @@ ghost use Rattle.std.specs.Prelude.{◌≡◌, ◌<◌, [], length, map, None, S
 ghost use Rattle.std.specs.Arc.{arc_value};
 ghost use Rattle.std.specs.List.{slice_get};
 ghost use Rattle.std.specs.Option.{option_copied, is_some};
-ghost use Rattle.druid_shard.specs.Reply.{AreSorted};
-ghost use Rattle.druid_shard.specs.Replay.{StandsAt, BelongsAt, is_strict, has_room};
-ghost use Rattle.druid_shard.specs.declared.change.Change.TheVariants.{Load};
+ghost use Rattle.druid_segment_descriptor.specs.Reply.{AreSorted};
+ghost use Rattle.druid_segment_descriptor.specs.Replay.{StandsAt, BelongsAt, is_strict, has_room};
+ghost use Rattle.druid_segment_descriptor.specs.declared.change.Change.TheVariants.{Load};
 ghost use Rattle.druid_node.specs.State.{descriptors_of};
-ghost use Rattle.druid_scan.specs.Once.{segment_named};
+ghost use Rattle.druid_partial_scan.specs.Once.{segment_named};
 ghost use Rattle.druid_node.specs.Held.{IsHeld, with_held, without_held};
 
-use druid_rows::Segment;
-use druid_segid::SegmentId;
+use druid_segment_id::SegmentId;
+use druid_segment_rows::Segment;
 use std::alloc::{AllocError, Global};
 use std::cmp::Ordering;
 use std::marker::Model;
@@ -27,7 +27,7 @@ pub(crate) struct Held {
 impl Model for Held {
     ghost use Rattle.std.specs.Prelude.{List, map};
     ghost use Rattle.std.specs.Arc.{arc_value};
-    ghost use Rattle.druid_rows.specs.Segment.{Segment};
+    ghost use Rattle.druid_segment_rows.specs.Segment.{Segment};
     ghost use Rattle.druid_node.specs.Held.{IsHeld};
 
     ghost Value = { List Segment };

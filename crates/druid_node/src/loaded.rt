@@ -1,7 +1,7 @@
 //! What a node loaded out of a file.
 ghost use Rattle.std.specs.Prelude.{◌≡◌};
 
-use druid_segid::SegmentId;
+use druid_segment_id::SegmentId;
 use std::marker::Model;
 
 /// What a node loaded out of a file: the identifier of its segment, by which that is dropped, how many rows the segment has, and how

@@ -1,20 +1,20 @@
 //! What a request asks of a node's state. No state is at hand where that is read.
 ghost use Rattle.std.specs.Prelude.{◌≡◌, ◌≢◌, IsSome, IfOk, IfErr, OnErr};
-ghost use Rattle.druid_sync.specs.Asks.{ask_at};
-ghost use Rattle.druid_message.specs.Requests.{path_of};
+ghost use Rattle.druid_sync_text.specs.Asks.{ask_at};
+ghost use Rattle.druid_http_message.specs.Requests.{path_of};
 ghost use Rattle.druid_query.specs.Refused.{refusal_text};
-ghost use Rattle.druid_wire.specs.Served.{Tells};
+ghost use Rattle.druid_http_wire.specs.Served.{Tells};
 ghost use Rattle.druid_node.specs.Routes.{AnswersAsk, AnswersQuery, AnswersAt, Responds, TakesMemory, route_of};
 ghost use Rattle.druid_node.specs.Questions.{Asks, IsOpen};
 
 use crate::NodeFault;
 use crate::routes::{Route, route_of};
-use druid_message::Request;
+use druid_http_message::Request;
+use druid_http_wire::Response;
 use druid_query::{QueryFault, SubQuery};
 use druid_query_text::read_subquery;
-use druid_shard::Ask;
-use druid_sync::read_ask;
-use druid_wire::Response;
+use druid_segment_descriptor::Ask;
+use druid_sync_text::read_ask;
 use http::StatusCode;
 use std::alloc::Global;
 

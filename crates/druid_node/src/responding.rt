@@ -7,7 +7,7 @@ ghost use Rattle.druid_node.specs.Questions.{IsBasisOf, IsOpen, IsUnmade};
 use crate::basis::{Basis, answer_from};
 use crate::question::{Question, question_of};
 use crate::{NodeFault, NodeState};
-use druid_message::Request;
+use druid_http_message::Request;
 use http::StatusCode;
 
 impl NodeState {

@@ -1,10 +1,10 @@
 //! What a node does for a caller that has seen a mark of it.
 ghost use Rattle.std.specs.Prelude.{◌≡◌, Some, IfOk, IfErr, OnOk, OnErr};
 ghost use Rattle.std.specs.declared.cmp.Ordering.TheVariants.{Less};
-ghost use Rattle.druid_shard.specs.Mark.{mark_cmp};
-ghost use Rattle.druid_shard.specs.declared.change.Change.TheVariants.{Load};
-ghost use Rattle.druid_shard.specs.Described.{Described};
-ghost use Rattle.druid_changes.specs.Kept.{IsKept, described_named};
+ghost use Rattle.druid_segment_descriptor.specs.Mark.{mark_cmp};
+ghost use Rattle.druid_segment_descriptor.specs.declared.change.Change.TheVariants.{Load};
+ghost use Rattle.druid_segment_descriptor.specs.Described.{Described};
+ghost use Rattle.druid_sync_history.specs.Kept.{IsKept, described_named};
 ghost use Rattle.druid_node.specs.State.{IsState, Freezes, Takes, Leaves, Covers, Refuses, RefusesToDrop, RefusesToCover};
 ghost use Rattle.druid_node.specs.Seen.{mark_of, Changes, Drops, RefusesChange, IsStale, IsAtLeast, RefusesAsSeen};
 ghost use Rattle.druid_node.specs.Questions.{IsBasisInTurn, IsBasisFrom, IsMadeInTurn};
@@ -12,10 +12,10 @@ ghost use Rattle.druid_node.specs.Questions.{IsBasisInTurn, IsBasisFrom, IsMadeI
 use crate::basis::{Basis, answer_from_parts};
 use crate::question::Question;
 use crate::{Incarnation, NodeFault, NodeState};
-use druid_rows::Segment;
-use druid_segid::SegmentId;
-use druid_shard::Mark;
-use druid_wire::Response;
+use druid_http_wire::Response;
+use druid_segment_descriptor::Mark;
+use druid_segment_id::SegmentId;
+use druid_segment_rows::Segment;
 use std::alloc::Global;
 use std::marker::{Model, PhantomData};
 use std::thread::Threads;

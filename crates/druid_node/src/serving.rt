@@ -2,15 +2,15 @@
 ghost use Rattle.std.specs.Prelude.{◌≡◌, ◌≢◌, ◌⊎◌, ℕ, List, Some, IfOk, IfErr, OnOk, OnErr};
 ghost use Rattle.std.specs.Io.KnownBytes.{Keeps};
 ghost use Rattle.std.specs.declared.cmp.Ordering.TheVariants.{Greater};
-ghost use Rattle.druid_shard.specs.Mark.{Point, mark_cmp};
-ghost use Rattle.druid_message.specs.declared.fault.WireFault.{WireFault};
-ghost use Rattle.druid_wire.specs.Served.{refusal_text, IsSent, IsCutShort};
+ghost use Rattle.druid_segment_descriptor.specs.Mark.{Point, mark_cmp};
+ghost use Rattle.druid_http_message.specs.declared.fault.WireFault.{WireFault};
+ghost use Rattle.druid_http_wire.specs.Served.{refusal_text, IsSent, IsCutShort};
 ghost use Rattle.druid_node.specs.Seen.{IsStale, AnswersFrom, AnswersSince, IsServedAsSeen, IsPassedBy, IsUnserved};
 
 use crate::{DataNode, Incarnation, NodeFault};
-use druid_message::{Request, WireFault};
-use druid_shard::Mark;
-use druid_wire::{read_request, refuse_request, send_response};
+use druid_http_message::{Request, WireFault};
+use druid_http_wire::{read_request, refuse_request, send_response};
+use druid_segment_descriptor::Mark;
 use std::io::{BufRead, Write};
 use std::sync::Wait;
 use std::thread::Threads;

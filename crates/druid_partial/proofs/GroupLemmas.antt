@@ -13,7 +13,7 @@ use Rattle.std.proofs.lemmas.List.Elements.{filter-append, Contains-append_left,
 use Rattle.std.proofs.lemmas.Map.Keys.{sorted_head, sorted_tail}
 use Rattle.std.proofs.lemmas.Bool.{false_from_ne_true}
 use Rattle.druid_base.proofs.ListLemmas.{Contains-here}
-use Rattle.druid_segid.proofs.OrderLemmas.{both-Equal, nat_cmp-Equal, slice_cmp-Equal}
+use Rattle.druid_segment_id.proofs.OrderLemmas.{both-Equal, nat_cmp-Equal, slice_cmp-Equal}
 use Rattle.druid_base.proofs.MemberLemmas.{Contains-later, Contains-nil, Contains-cons}
 use Rattle.druid_query.specs.declared.aggregator.AggregatorKind.{AggregatorKind}
 use Rattle.druid_partial.specs.Groups.{Key, Group, value_cmp, key_cmp, key_of, InOrder, known, number_at, column, Occurs, IsAggregate, IsResult, IsMerge}

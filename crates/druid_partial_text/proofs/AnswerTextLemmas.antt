@@ -13,7 +13,7 @@ use Rattle.druid_partial_text.specs.Written.{IsHeld, partial_data}
 use Rattle.druid_partial_text.specs.Answers.{answer_data}
 use Rattle.druid_partial_text.specs.Tokens.{tokens_of}
 use Rattle.druid_partial_text.specs.Missed.{IsOfSegment}
-use Rattle.druid_shard_text.proofs.WrittenLemmas.{read_tokens}
+use Rattle.druid_segment_text.proofs.WrittenLemmas.{read_tokens}
 use Rattle.druid_partial_text.proofs.TextBackLemmas.{items_read, items_shallow, partial_reads, partial_shallow}
 
 asked_reads : (a : Asked) → IsOfSegment a → of_json (outline (asked_data a)) ≡ Some (asked_data a)

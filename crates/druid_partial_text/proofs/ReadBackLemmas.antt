@@ -14,9 +14,9 @@ use Rattle.druid_base.specs.Options.{◌>>=◌}
 use Rattle.druid_query.specs.Query.{Query}
 use Rattle.druid_query.specs.Asked.{Asked, asked_at, asked_data}
 use Rattle.druid_query.specs.SubQuery.{SubQuery}
-use Rattle.druid_asked_text.proofs.BackLemmas.{asked_back}
+use Rattle.druid_query_slice_text.proofs.BackLemmas.{asked_back}
 use Rattle.druid_time.specs.Extent.{IsExtent}
-use Rattle.druid_segid.specs.Identifier.{IsIdentifier}
+use Rattle.druid_segment_id.specs.Identifier.{IsIdentifier}
 use Rattle.druid_base.proofs.EachLemmas.{each_back as listed_back}
 use Rattle.druid_partial_text.specs.Answers.{AreOfSource, WereAsked, TellsAnswer, answer_data}
 use Rattle.druid_base.specs.Each.{each_of}

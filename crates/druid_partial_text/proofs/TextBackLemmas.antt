@@ -13,7 +13,7 @@ use Rattle.serde_json.specs.Written.{outline, items_outline}
 use Rattle.serde_json.specs.Read.{read, of_json, of_items}
 use Rattle.serde_json.proofs.Numbers.{number_of-decimal, number_of-negative}
 use Rattle.druid_time.specs.Instant.{IsInstant, unix_ms}
-use Rattle.druid_shard_text.proofs.WrittenLemmas.{read_tokens}
+use Rattle.druid_segment_text.proofs.WrittenLemmas.{read_tokens}
 use Rattle.druid_query.specs.Written.{value_data}
 use Rattle.druid_partial.specs.Groups.{Group, AreWords}
 use Rattle.druid_partial_text.specs.Written.{number_data, bucket_data, values_data, numbers_data, group_data, partial_data, IsHeld}

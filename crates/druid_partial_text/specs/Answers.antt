@@ -5,7 +5,7 @@ use Rattle.serde_json.specs.Find.{get, as_array}
 use Rattle.serde_json.specs.Written.{compact_text}
 use Rattle.druid_base.specs.Json.{ReadsAs}
 use Rattle.druid_time.specs.Extent.{IsExtent}
-use Rattle.druid_segid.specs.Identifier.{IsIdentifier}
+use Rattle.druid_segment_id.specs.Identifier.{IsIdentifier}
 use Rattle.druid_base.specs.Each.{each_of}
 use Rattle.druid_query.specs.Query.{Query}
 use Rattle.druid_query.specs.Asked.{Asked, asked_at}

@@ -2,7 +2,7 @@
 use Rattle.std.specs.Prelude.{◌≡◌, List, Some, IsSome, codes, option_and_then}
 use Rattle.serde_json.specs.Data.{Data, Items, array}
 use Rattle.serde_json.specs.Find.{get, as_array}
-use Rattle.druid_segid.specs.Identifier.{IsIdentifier}
+use Rattle.druid_segment_id.specs.Identifier.{IsIdentifier}
 use Rattle.druid_base.specs.Each.{each_of}
 use Rattle.druid_query.specs.Asked.{Asked, asked_at}
 use Rattle.druid_query.specs.SubQuery.{SubQuery}

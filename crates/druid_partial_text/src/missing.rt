@@ -10,9 +10,9 @@ ghost use Rattle.druid_query.specs.PieceOrder.{piece_cmp};
 ghost use Rattle.druid_partial_text.specs.Missed.{AreMissed};
 
 use crate::piece_ref::PieceRef;
-use druid_asked_text::{is_asked, read_asked};
 use druid_query::{SegmentSlice, SubQuery};
-use druid_segid::Name;
+use druid_query_slice_text::{is_asked, read_asked};
+use druid_segment_id::Name;
 use serde_json::Value;
 use std::alloc::{AllocError, Global};
 use std::collections::BTreeSet;

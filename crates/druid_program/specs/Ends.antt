@@ -1,9 +1,9 @@
 -- What ends of `replay` and of `serve` report, and the statuses that they give.
 use Rattle.std.specs.Prelude.{ℕ, List, [], ◌∷◌, ◌++◌, codes, ⊤, Result, Ok, Err}
-use Rattle.druid_cluster.specs.Faults.{fault_text as replay_text}
-use Rattle.druid_cluster.specs.declared.fault.ReplayFault.{ReplayFault}
-use Rattle.druid_server.specs.Ends.{fault_text as serve_text}
-use Rattle.druid_server.specs.declared.serve_fault.ServeFault.{ServeFault}
+use Rattle.druid_replay.specs.Faults.{fault_text as replay_text}
+use Rattle.druid_replay.specs.declared.fault.ReplayFault.{ReplayFault}
+use Rattle.druid_serve_base.specs.Ends.{fault_text as serve_text}
+use Rattle.druid_serve_base.specs.declared.serve_fault.ServeFault.{ServeFault}
 use Rattle.druid_program.specs.Exits.{status_of, exit_of_replay, exit_of_serve}
 
 abbrev pub usage_line : List ℕ

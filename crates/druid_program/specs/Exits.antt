@@ -1,9 +1,9 @@
 -- The statuses that the program exits with.
 use Rattle.std.specs.Prelude.{ℕ, ⊤, Result, Ok, Err}
-use Rattle.druid_cluster.specs.declared.fault.ReplayFault.{ReplayFault}
-use Rattle.druid_cluster.specs.declared.fault.ReplayFault.TheVariants as replay
-use Rattle.druid_server.specs.declared.serve_fault.ServeFault.{ServeFault}
-use Rattle.druid_server.specs.declared.serve_fault.ServeFault.TheVariants as serve
+use Rattle.druid_replay.specs.declared.fault.ReplayFault.{ReplayFault}
+use Rattle.druid_replay.specs.declared.fault.ReplayFault.TheVariants as replay
+use Rattle.druid_serve_base.specs.declared.serve_fault.ServeFault.{ServeFault}
+use Rattle.druid_serve_base.specs.declared.serve_fault.ServeFault.TheVariants as serve
 use Rattle.druid_program.specs.declared.exit.Exit.{Exit}
 use Rattle.druid_program.specs.declared.exit.Exit.TheVariants.{Done, Refused, Usage, Device}
 

@@ -1,5 +1,5 @@
 //! The file of a config.
-use druid_server::{ServeFault, Stop};
+use druid_serve_base::{ServeFault, Stop};
 use std::alloc::Global;
 use std::io::Read;
 use std::rt::Files;

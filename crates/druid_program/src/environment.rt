@@ -1,7 +1,7 @@
 //! What the environment asks of the program.
 ghost use Rattle.std.specs.Prelude.{◌≡◌, option_map, string_bytes};
 
-use druid_log::Log;
+use druid_telemetry_log::Log;
 use std::alloc::Global;
 use std::marker::Model;
 use std::sync::Arc;

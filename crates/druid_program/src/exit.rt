@@ -2,8 +2,8 @@
 ghost use Rattle.std.specs.Prelude.{◌≡◌};
 ghost use Rattle.druid_program.specs.Exits.{status_of, exit_of_replay, exit_of_serve};
 
-use druid_cluster::ReplayFault;
-use druid_server::ServeFault;
+use druid_replay::ReplayFault;
+use druid_serve_base::ServeFault;
 use std::io;
 
 /// How the program ends.

@@ -1,5 +1,5 @@
 //! The program but for its handles: what its words ask for, how it ends, and what it reports, under
-//! one contract (`run`). `druid_cluster` and `druid_serve` know no words, and print nothing of why
+//! one contract (`run`). `druid_replay` and `druid_serve` know no words, and print nothing of why
 //! they end.
 #![tactic(auto)]
 

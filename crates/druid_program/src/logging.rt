@@ -1,6 +1,6 @@
 //! The log of the program, and the thread that writes it.
-use druid_log::{Level, Lines, Log, open, write_lines};
-use druid_server::DeviceFailed;
+use druid_serve_base::DeviceFailed;
+use druid_telemetry_log::{Level, Lines, Log, open, write_lines};
 use std::alloc::Global;
 use std::io::Write;
 use std::sync::{Arc, Wait};

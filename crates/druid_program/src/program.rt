@@ -1,11 +1,11 @@
 //! What the program does with its words, its input and its two outputs.
 ghost use Rattle.std.specs.Prelude.{◌≡◌, ◌∷◌, ◌++◌, [], ⊤, Result, Err, IfOk, OnOk, OnErr, map, string_bytes};
 ghost use Rattle.std.specs.Io.KnownBytes.{Appends, Keeps};
-ghost use Rattle.druid_cluster.specs.Runs.{Replays};
-ghost use Rattle.druid_cluster.specs.Faults.{fault_text as replay_text};
-ghost use Rattle.druid_cluster.specs.declared.fault.ReplayFault.{ReplayFault};
-ghost use Rattle.druid_server.specs.Ends.{fault_text as serve_text};
-ghost use Rattle.druid_server.specs.declared.serve_fault.ServeFault.{ServeFault};
+ghost use Rattle.druid_replay.specs.Runs.{Replays};
+ghost use Rattle.druid_replay.specs.Faults.{fault_text as replay_text};
+ghost use Rattle.druid_replay.specs.declared.fault.ReplayFault.{ReplayFault};
+ghost use Rattle.druid_serve_base.specs.Ends.{fault_text as serve_text};
+ghost use Rattle.druid_serve_base.specs.declared.serve_fault.ServeFault.{ServeFault};
 ghost use Rattle.druid_serve.specs.Served.{IsConfig, IsServed, ServesAs};
 ghost use Rattle.druid_program.specs.Ends.{usage_line, replay_status, replay_line, serve_status, serve_line};
 ghost use Rattle.druid_program.specs.Exits.{status_of, exit_of_serve};
@@ -15,9 +15,9 @@ ghost use Rattle.druid_program.specs.Words.{AsksForReplay, AsksForServe};
 use crate::config_file::config_bytes;
 use crate::report::report;
 use crate::{Ending, Environment, Exit, asks_for_replay, asks_for_serve};
-use druid_cluster::{Reason, ReplayFault, replay_explained};
+use druid_replay::{Reason, ReplayFault, replay_explained};
 use druid_serve::serve;
-use druid_server::{Host, ServeFault, Stop};
+use druid_serve_base::{Host, ServeFault, Stop};
 use std::alloc::Global;
 use std::fs::File;
 use std::io;

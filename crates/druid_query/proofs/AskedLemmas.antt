@@ -14,8 +14,8 @@ use Rattle.std.proofs.lemmas.List.Sorted.{IsPermutation-sym, All-permutation}
 use Rattle.druid_base.proofs.OrderLemmas.{nat_cmp-lt}
 use Rattle.druid_time.specs.Extent.{IsExtent, common}
 use Rattle.druid_time.proofs.ExtentLemmas.{common-Share}
-use Rattle.druid_segid.specs.Identifier.{Identifier, parts_cmp, same_identifier}
-use Rattle.druid_segid.specs.IdentifierLaws.{parts_cmp-total, same_parts, same_identifier-true}
+use Rattle.druid_segment_id.specs.Identifier.{Identifier, parts_cmp, same_identifier}
+use Rattle.druid_segment_id.specs.IdentifierLaws.{parts_cmp-total, same_parts, same_identifier-true}
 use Rattle.druid_base.proofs.MovedLemmas.{alone-permutation}
 use Rattle.druid_query.specs.Asked.{Asked, Overlap, do_overlap, StandApart, stand_apart}
 use Rattle.druid_query.specs.AskedOrder.{asked_cmp, AreApart}

@@ -8,8 +8,8 @@ use Rattle.serde_json.specs.Find.{get, as_array}
 use Rattle.druid_time.specs.Extent.{Extent, Has, Share, common}
 use Rattle.druid_base.specs.Options.{◌>>=◌}
 use Rattle.druid_time.specs.Texts.{extent_text, extent_at}
-use Rattle.druid_segid.specs.Names.{is_version}
-use Rattle.druid_segid.specs.Identifier.{Identifier, same_identifier}
+use Rattle.druid_segment_id.specs.Names.{is_version}
+use Rattle.druid_segment_id.specs.Identifier.{Identifier, same_identifier}
 use Rattle.druid_base.specs.Fields.{text_at, limited_at}
 use Rattle.druid_query.specs.Fields.{each_among}
 

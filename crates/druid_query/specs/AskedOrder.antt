@@ -5,8 +5,8 @@ use Rattle.std.specs.declared.cmp.Ordering.{Ordering}
 use Rattle.std.specs.Ordering.{nat_cmp, ordering_then, is_eq}
 use Rattle.std.specs.Cmp.{IsTotalOrder, IsPartialOrder, IsEquivalence, IsPartialEquivalence, partial_equiv_from_equiv, partial_order_from_agreeing_total, both_tied, unsigned_ties, nat_eq_equiv}
 use Rattle.std.proofs.lemmas.Cmp.{then_total, on_total, nat_cmp_total, and_equiv, on_equiv}
-use Rattle.druid_segid.specs.Identifier.{parts_cmp, same_identifier}
-use Rattle.druid_segid.specs.IdentifierLaws.{parts_cmp-total, same_parts, same_identifier-equiv}
+use Rattle.druid_segment_id.specs.Identifier.{parts_cmp, same_identifier}
+use Rattle.druid_segment_id.specs.IdentifierLaws.{parts_cmp-total, same_parts, same_identifier-equiv}
 use Rattle.druid_query.specs.Asked.{Asked, do_overlap}
 
 -- by the parts of the segment, and then by the piece

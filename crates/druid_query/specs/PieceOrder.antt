@@ -4,8 +4,8 @@ use Rattle.std.specs.Ordering.{nat_cmp, ordering_then, is_eq}
 use Rattle.std.specs.declared.cmp.Ordering.{Ordering}
 use Rattle.std.specs.Cmp.{IsTotalOrder, IsPartialOrder, partial_order_from_agreeing_total, both_tied, first_so, second_so, unsigned_Decides, unsigned_ties}
 use Rattle.std.proofs.lemmas.Cmp.{then_total, on_total, nat_cmp_total}
-use Rattle.druid_segid.specs.Identifier.{identifier_cmp}
-use Rattle.druid_segid.specs.IdentifierLaws.{identifier_cmp-total, identifier_cmp-ties, same_identifier-true}
+use Rattle.druid_segment_id.specs.Identifier.{identifier_cmp}
+use Rattle.druid_segment_id.specs.IdentifierLaws.{identifier_cmp-total, identifier_cmp-ties, same_identifier-true}
 use Rattle.druid_query.specs.Asked.{Asked}
 use Rattle.druid_query.specs.AskedOrder.{same_asked}
 

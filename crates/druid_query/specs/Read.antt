@@ -6,7 +6,7 @@ use Rattle.druid_base.specs.Json.{ReadsAs}
 use Rattle.druid_time.specs.Extent.{Extent}
 use Rattle.druid_time.specs.Results.{◌>>=◌}
 use Rattle.druid_time.specs.declared.granularity.Granularity.{Granularity}
-use Rattle.druid_segid.specs.Names.{is_name}
+use Rattle.druid_segment_id.specs.Names.{is_name}
 use Rattle.druid_filter.specs.Filters.{Condition}
 use Rattle.druid_query.specs.Query.{Query, Dimension, Aggregator, query_of, is_label, fits_filter, fit_dimensions, fit_aggregators, result_names}
 use Rattle.druid_base.specs.Distinct.{are_distinct}

@@ -7,7 +7,7 @@ use Rattle.serde_json.specs.Written.{compact_text}
 use Rattle.std.specs.Prelude.{map}
 use Rattle.druid_time.specs.Extent.{Extent, IsExtent}
 use Rattle.druid_time.specs.Results.{◌>>=◌}
-use Rattle.druid_segid.specs.Identifier.{IsIdentifier}
+use Rattle.druid_segment_id.specs.Identifier.{IsIdentifier}
 use Rattle.druid_base.specs.Each.{each_of}
 use Rattle.druid_query.specs.Query.{Query, query_of, result_names}
 use Rattle.druid_base.specs.Distinct.{are_distinct}

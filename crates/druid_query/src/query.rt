@@ -7,7 +7,7 @@ ghost use Rattle.druid_query.specs.Read.{IsQuery};
 
 use crate::{Aggregator, Dimension, QueryType};
 use druid_filter::Filter;
-use druid_segid::Name;
+use druid_segment_id::Name;
 use druid_time::{Granularity, Interval};
 use std::alloc::{AllocError, Global};
 use std::marker::Model;

@@ -4,7 +4,7 @@ ghost use Rattle.druid_query.specs.AskedOrder.{same_asked, same_asked-per, same_
 ghost use Rattle.druid_query.specs.PieceOrder as order;
 ghost use Rattle.druid_query.specs.PieceOrder.{piece_cmp};
 
-use druid_segid::SegmentId;
+use druid_segment_id::SegmentId;
 use druid_time::Interval;
 use std::alloc::AllocError;
 use std::cmp::Ordering;

@@ -1,6 +1,6 @@
 //! Pieces that a node is asked for, as JSON.
 use crate::subquery::subquery;
-use druid_asked_text::{asked_value, asked_values, read_asked};
+use druid_query_slice_text::{asked_value, asked_values, read_asked};
 use std::alloc::Global;
 use std::process::Abort;
 

@@ -1,7 +1,7 @@
 //! Filters that tests draw: the text of one, and which rows pass it, by no code of the product.
 use crate::drawn::Draws;
 use crate::plain::value_of;
-use druid_rows::{Row, Schema};
+use druid_segment_rows::{Row, Schema};
 use std::alloc::Global;
 use std::fmt::Write;
 use std::process::Abort;

@@ -1,5 +1,5 @@
 //! The timeout in a query's context.
-use druid_context::timeout_of;
+use druid_query_context::timeout_of;
 use std::alloc::Global;
 use std::process::Abort;
 

@@ -1,7 +1,7 @@
 //! What no contract says of queries, of partials and of data nodes: worked examples over texts, files and messages, printed
 //! texts, that calls succeed with ample memory, and drawn queries beside a plain computation (`plain`, with the filters of
-//! `condition`). `context` is of `druid_context`, `subquery` of `druid_query_text`, `partial` of `druid_scan` too, `answers` of
-//! `druid_partial_text`, `node`, `queries`, `columns` and `threads` of `druid_node`, `drawn` of `druid_scan` over files by
+//! `condition`). `context` is of `druid_query_context`, `subquery` of `druid_query_text`, `partial` of `druid_partial_scan` too, `answers` of
+//! `druid_partial_text`, `node`, `queries`, `columns` and `threads` of `druid_node`, `drawn` of `druid_partial_scan` over files by
 //! columns, and `slices` of it over several segments.
 #![tactic(auto)]
 

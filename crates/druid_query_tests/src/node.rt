@@ -1,12 +1,12 @@
 //! Data nodes over folders in memory, and what they answer to messages.
 use crate::printing::{assert_prints, filled, printed};
 use druid_folder::Folder;
+use druid_folder_store::MemoryFolder;
 use druid_node::{DataNode, Incarnation, NodeFault, NodeState};
-use druid_rows::Segment;
-use druid_segfile::{read_segment, write_columns, write_segment};
-use druid_segid::{Name, SegmentId};
-use druid_shard::Mark;
-use druid_store::MemoryFolder;
+use druid_segment_descriptor::Mark;
+use druid_segment_file::{read_segment, write_columns, write_segment};
+use druid_segment_id::{Name, SegmentId};
+use druid_segment_rows::Segment;
 use std::alloc::Global;
 use std::process::Abort;
 use std::sync::Wait;

@@ -2,13 +2,13 @@
 ghost use Rattle.druid_partial.specs.Partials.{IsPartialFor};
 
 use druid_partial::{Partial, kinds_of, merge};
+use druid_partial_scan::partial_of;
 use druid_partial_text::result_text;
 use druid_query::{AggregatorKind, Query};
 use druid_query_text::read_query;
-use druid_rows::{Row, Schema, Segment};
-use druid_scan::partial_of;
-use druid_segid::{Name, SegmentId, Version};
-use druid_shard::Descriptor;
+use druid_segment_descriptor::Descriptor;
+use druid_segment_id::{Name, SegmentId, Version};
+use druid_segment_rows::{Row, Schema, Segment};
 use druid_time::{Instant, Interval};
 use std::alloc::Global;
 use std::process::Abort;

@@ -1,10 +1,10 @@
 //! Partials, read and written again, and the results that they are written as.
 use crate::printing::{assert_prints, printed};
-use druid_asked_text::read_asked;
 use druid_partial_text::{PartialFault, partial_text, read_partial, result_text, shortfall_text};
 use druid_query::{Query, SegmentSlice};
+use druid_query_slice_text::read_asked;
 use druid_query_text::read_query;
-use druid_segid::Name;
+use druid_segment_id::Name;
 use serde_json::Value;
 use std::alloc::Global;
 use std::process::Abort;

@@ -2,7 +2,7 @@
 use crate::condition::{Step, passes};
 use druid_partial::Group;
 use druid_query::{Aggregator, AggregatorKind, Query};
-use druid_rows::{Row, Schema, Segment};
+use druid_segment_rows::{Row, Schema, Segment};
 use druid_time::Interval;
 use std::alloc::Global;
 use std::collections::BTreeMap;

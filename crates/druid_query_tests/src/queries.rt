@@ -2,7 +2,7 @@
 use crate::node::{First, LAYOUTS, Layout, answers, node};
 use crate::printing::filled;
 use druid_node::DataNode;
-use druid_shard::Mark;
+use druid_segment_descriptor::Mark;
 use std::alloc::Global;
 use std::process::Abort;
 use std::sync::Wait;

@@ -5,9 +5,9 @@ use crate::drawn::{Draws, GRANULARITIES, INTERVALS, KINDS, NUMBERS, drawn_query,
 use crate::partial::{both, segment};
 use crate::plain::{Drawn, Plain, add_rows, same_groups};
 use druid_partial::Partial;
+use druid_partial_scan::{Slice, partial_of_slices, partial_over};
 use druid_query::Query;
-use druid_rows::Segment;
-use druid_scan::{Slice, partial_of_slices, partial_over};
+use druid_segment_rows::Segment;
 use druid_time::Interval;
 use std::alloc::Global;
 use std::collections::BTreeMap;

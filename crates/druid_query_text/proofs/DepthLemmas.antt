@@ -3,7 +3,7 @@ use Rattle.std.proofs.Common.{ℕ, ◌+◌, ◌*◌, ◌≤◌, nat_le, List, co
 use Rattle.std.proofs.lemmas.Bool.{leb-true, and_parts}
 use Rattle.serde_json.specs.Data.{Data, array, Items, depth, items_depth}
 use Rattle.druid_time.specs.Extent.{Extent}
-use Rattle.druid_shard_text.proofs.WrittenLemmas.{items_shallow}
+use Rattle.druid_segment_text.proofs.WrittenLemmas.{items_shallow}
 use Rattle.druid_filter.specs.Filters.{Condition, has, has_among, all_of, any_of, is_not, Conditions, no_conditions, condition}
 use Rattle.druid_query.specs.Query.{Query, Dimension, Aggregator, levels, most_levels, members, fits_texts}
 use Rattle.druid_query.specs.Read.{IsQuery}

@@ -7,7 +7,7 @@ use Rattle.serde_json.specs.Find.{as_null, as_array, as_object, as_str}
 use Rattle.serde_json.specs.View.{view, items_view, members_view}
 use Rattle.serde_json.specs.declared.value.Value.{Value}
 use Rattle.druid_query.specs.Fields.{is_empty, texts_among}
-use Rattle.druid_asked_text.proofs.AmongLemmas.{some_of, among, none_among, not_among}
+use Rattle.druid_query_slice_text.proofs.AmongLemmas.{some_of, among, none_among, not_among}
 
 -- ---- what is empty
 

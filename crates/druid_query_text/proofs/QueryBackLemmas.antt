@@ -5,7 +5,7 @@ use Rattle.serde_json.specs.Find.{get, as_null}
 use Rattle.druid_time.specs.Extent.{Extent, IsExtent}
 use Rattle.druid_time.specs.Results.{◌>>=◌}
 use Rattle.druid_time.specs.declared.granularity.Granularity.{Granularity}
-use Rattle.druid_segid.specs.Names.{is_name}
+use Rattle.druid_segment_id.specs.Names.{is_name}
 use Rattle.druid_filter.specs.Filters.{Condition}
 use Rattle.druid_query.specs.Query.{Query, Dimension, Aggregator, result_names, is_label, fits_filter, fit_dimensions, fit_aggregators}
 use Rattle.druid_base.specs.Distinct.{are_distinct}

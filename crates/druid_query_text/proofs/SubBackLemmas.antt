@@ -6,7 +6,7 @@ use Rattle.serde_json.specs.View.{items_of}
 use Rattle.druid_time.specs.Extent.{Extent, IsExtent}
 use Rattle.druid_base.specs.Options as options
 use Rattle.druid_time.specs.Results.{◌>>=◌}
-use Rattle.druid_segid.specs.Identifier.{IsIdentifier}
+use Rattle.druid_segment_id.specs.Identifier.{IsIdentifier}
 use Rattle.druid_base.specs.Each.{each_of}
 use Rattle.druid_base.proofs.EachLemmas.{each_back}
 use Rattle.druid_base.proofs.MemberLemmas.{Contains-later, Contains-nil}
@@ -22,7 +22,7 @@ use Rattle.druid_query.specs.declared.query_type.QueryType.{QueryType}
 use Rattle.druid_query.specs.declared.query_type.QueryType.TheVariants.{Timeseries, GroupBy}
 use Rattle.druid_query.proofs.AskedLemmas.{apart_reported}
 use Rattle.druid_query.proofs.ChainLemmas.{parts_made, whole_read, whole_bound, steps_of}
-use Rattle.druid_asked_text.proofs.BackLemmas.{spelled_some, inside_back}
+use Rattle.druid_query_slice_text.proofs.BackLemmas.{spelled_some, inside_back}
 use Rattle.druid_query_text.proofs.SubLemmas.{subs, of_sub, span_bound}
 use Rattle.druid_query.proofs.BackLemmas.{texts_back}
 use Rattle.druid_query.proofs.SoundLemmas.{HasItem, bound_item, IsSomeList}

@@ -7,14 +7,14 @@ use Rattle.serde_json.specs.Data.{Data, Items, no_items, item}
 use Rattle.druid_time.specs.Extent.{Extent, IsExtent}
 use Rattle.druid_base.specs.Options.{◌>>=◌}
 use Rattle.druid_time.specs.Texts.{extent_at}
-use Rattle.druid_segid.specs.Names.{IsName, is_version, IsVersion}
-use Rattle.druid_segid.specs.Identifier.{IsIdentifier}
-use Rattle.druid_segid.proofs.NameLemmas.{is_version-to}
+use Rattle.druid_segment_id.specs.Names.{IsName, is_version, IsVersion}
+use Rattle.druid_segment_id.specs.Identifier.{IsIdentifier}
+use Rattle.druid_segment_id.proofs.NameLemmas.{is_version-to}
 use Rattle.druid_base.specs.Fields.{text_at, limited_at, number_at}
 use Rattle.druid_query.specs.Asked.{Asked, Spelled, version_of, spelled_at, named_by, asked_at, inside_at, lies_inside, segments_in, asked_items}
 use Rattle.druid_query.specs.Fields.{each_among}
 use Rattle.druid_base.specs.Each.{each_of}
-use Rattle.druid_asked_text.proofs.PieceLemmas.{inside_tells, inside_both}
+use Rattle.druid_query_slice_text.proofs.PieceLemmas.{inside_tells, inside_both}
 use Rattle.druid_query.proofs.SoundLemmas.{text_sound, HasItem}
 
 -- ---- the shape of a piece

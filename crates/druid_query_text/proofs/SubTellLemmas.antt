@@ -2,9 +2,9 @@
 use Rattle.std.proofs.Common.{◌≡◌, ℕ, List, [], ◌∷◌, codes, Contains, Option, Some, None, Ok, option_and_then, true, refl, sym, ap, ◌∙◌, subst, arith}
 use Rattle.serde_json.specs.Data.{Data, Items}
 use Rattle.serde_json.specs.Find.{get}
-use Rattle.druid_segid.proofs.NameLemmas.{is_name-to}
+use Rattle.druid_segment_id.proofs.NameLemmas.{is_name-to}
 use Rattle.druid_time.specs.Results.{◌>>=◌}
-use Rattle.druid_segid.specs.Names.{IsName}
+use Rattle.druid_segment_id.specs.Names.{IsName}
 use Rattle.druid_base.specs.Each.{each_of}
 use Rattle.druid_base.proofs.EachLemmas.{each_sound}
 use Rattle.druid_query.specs.Asked.{Asked, stand_apart, inside_at, asked_items}
@@ -17,7 +17,7 @@ use Rattle.druid_query.proofs.SoundLemmas.{IsSomeList, read_some}
 use Rattle.druid_query_text.proofs.QueryBackLemmas.{when_true, source_tells}
 use Rattle.druid_query_text.proofs.SubLemmas.{subs, of_sub, ok_some, span_bound}
 use Rattle.druid_query_text.proofs.SubSoundLemmas.{IsPiece, inside_sound, items_there}
-use Rattle.druid_asked_text.proofs.BackLemmas.{inside_seen}
+use Rattle.druid_query_slice_text.proofs.BackLemmas.{inside_seen}
 
 apart_tells : (source : List ℕ) (d : Data) (all : List Asked) → apart_at source d ≡ Ok all → (pieces_at source d ≡ Ok all) × (stand_apart all ≡ true)
 unfolding apart_at

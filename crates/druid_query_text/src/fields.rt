@@ -10,7 +10,7 @@ ghost use Rattle.druid_query_text.specs.Members.{kind_text};
 
 use druid_base::text_field;
 use druid_query::{QueryFault, QueryType, is_label};
-use druid_segid::Name;
+use druid_segment_id::Name;
 use druid_time::Granularity;
 use serde_json::Value;
 

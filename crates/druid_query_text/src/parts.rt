@@ -17,7 +17,7 @@ use crate::filter::{filter_field, filter_of};
 use crate::interval::interval_list;
 use druid_filter::Filter;
 use druid_query::{Aggregator, Dimension, Query, QueryFault, QueryType};
-use druid_segid::Name;
+use druid_segment_id::Name;
 use druid_time::Granularity;
 use serde_json::Value;
 use std::alloc::{AllocError, Global};

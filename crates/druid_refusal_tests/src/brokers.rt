@@ -1,21 +1,21 @@
 //! Plans, what is gathered, turns, and what a broker answers.
 ghost use Rattle.std.specs.Prelude.{◌≡◌, ◌≤◌, IsTrue, length};
-ghost use Rattle.druid_scatter.specs.Rounds.{AreLinked};
+ghost use Rattle.druid_broker_scatter.specs.Rounds.{AreLinked};
 
 use crate::marks::{assert_call, begin, end};
 use crate::replies::{inventory, is_at, is_reply};
 use crate::values::segment;
 use druid_broker::{Routes, serve_one};
-use druid_follow::{TurnFault, fetch, fetch_entry, seed_turn, shared_turn, sync_turn};
+use druid_broker_follow::{TurnFault, fetch, fetch_entry, seed_turn, shared_turn, sync_turn};
+use druid_broker_scatter::{GatherFault, Plan, Rotate, gather, plan};
+use druid_http_message::WireFault;
+use druid_http_wire::response_of;
 use druid_inventory::{Inventory, Outcome};
+use druid_inventory_views::{Opened, Publication, Publisher, Receipt, View, open};
 use druid_link::{Link, MemoryLink};
-use druid_message::WireFault;
-use druid_published::{Opened, Publication, Publisher, Receipt, View, open};
 use druid_query::Query;
 use druid_query_text::read_query;
-use druid_scatter::{GatherFault, Plan, Rotate, gather, plan};
-use druid_shard::{Descriptor, Mark, Reply};
-use druid_wire::response_of;
+use druid_segment_descriptor::{Descriptor, Mark, Reply};
 use std::alloc::Global;
 use std::marker::Brand;
 use std::process::Abort;

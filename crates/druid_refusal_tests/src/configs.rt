@@ -1,6 +1,6 @@
 //! Configs of clusters.
 use crate::marks::{assert_call, begin, end};
-use druid_config::{ConfigFault, Part, bad_field_in, names_in, read_config};
+use druid_serve_config::{ConfigFault, Part, bad_field_in, names_in, read_config};
 use std::alloc::Global;
 use std::process::Abort;
 

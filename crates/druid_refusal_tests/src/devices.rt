@@ -1,10 +1,10 @@
 //! Folders in memory, the number of an incarnation, and links in memory.
 use crate::marks::{assert_call, begin, end};
 use druid_folder::{Folder, StoreFault};
-use druid_incarnation::next_incarnation;
+use druid_folder_incarnation::next_incarnation;
+use druid_folder_store::MemoryFolder;
+use druid_http_message::WireFault;
 use druid_link::{Link, MemoryLink};
-use druid_message::WireFault;
-use druid_store::MemoryFolder;
 use std::alloc::Global;
 use std::process::Abort;
 

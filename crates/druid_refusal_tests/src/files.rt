@@ -1,8 +1,8 @@
 //! Files of segments, of both layouts.
 use crate::data::segment;
 use crate::marks::{assert_call, begin, end};
-use druid_rows::Segment;
-use druid_segfile::{FileFault, read_segment, segment_of, write_columns, write_segment};
+use druid_segment_file::{FileFault, read_segment, segment_of, write_columns, write_segment};
+use druid_segment_rows::Segment;
 use std::alloc::Global;
 use std::process::Abort;
 

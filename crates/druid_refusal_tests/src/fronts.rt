@@ -1,11 +1,11 @@
 //! Fronts: opened, shared by workers, and a request that is served over a socket of this machine.
 ghost use Rattle.std.specs.Prelude.{◌≡◌, [], IfSome};
-ghost use Rattle.druid_front.specs.Answers.{IsAnswer};
+ghost use Rattle.druid_serve_front.specs.Answers.{IsAnswer};
 
 use crate::marks::{assert_call, begin, end};
-use druid_front::{Front, Job, Jobs, Place, Seats, answer_jobs, open};
-use druid_server::{DeviceFailed, Gate, Source};
-use druid_wire::{Response, send_response};
+use druid_http_wire::{Response, send_response};
+use druid_serve_base::{DeviceFailed, Gate, Source};
+use druid_serve_front::{Front, Job, Jobs, Place, Seats, answer_jobs, open};
 use http::StatusCode;
 use std::alloc::{AllocError, Global};
 use std::io::{Read, Write};
@@ -62,7 +62,7 @@ const REQUEST: &[u8] = b"POST / HTTP/1.1\r\nContent-Length: 3\r\n\r\nabc";
 const TEXT: &str = "def";
 
 // Writes the answer. None where memory runs out.
-#[tactic(auto, using(druid_front::proofs::AnswerLemmas::sent_is_answer))]
+#[tactic(auto, using(druid_serve_front::proofs::AnswerLemmas::sent_is_answer))]
 fn write_answer(alloc: Global, bytes: &mut Vec<u8>) -> Option<u16>
     requires { bytes.old.items ≡ [] }
     ensures { IfSome result (λ status. IsAnswer status bytes.new.items) }

@@ -2,15 +2,15 @@
 ghost use Rattle.std.specs.Prelude.{false};
 
 use crate::marks::{assert_call, begin, end};
-use druid_health::Health;
-use druid_log::{Event, Level, Log, Refusals, line_of, open};
-use druid_message::WireFault;
-use druid_metrics::{
+use druid_http_message::WireFault;
+use druid_link_health::Health;
+use druid_serve_base::{Status, Telemetry, serve_status_one};
+use druid_serve_node::Reporter;
+use druid_telemetry_log::{Event, Level, Log, Refusals, line_of, open};
+use druid_telemetry_metrics::{
     Counts, FollowMeter, Meter, NodeMeter, NodeState, Readings, Route, broker_families,
     metrics_response, node_families, render, server_families, server_histogram,
 };
-use druid_serve_node::Reporter;
-use druid_server::{Status, Telemetry, serve_status_one};
 use druid_time::Instant;
 use std::alloc::{AllocError, Global};
 use std::process::Abort;

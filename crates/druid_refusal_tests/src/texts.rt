@@ -1,17 +1,17 @@
 //! Queries, subqueries and answers of nodes, and their texts.
 use crate::marks::{assert_call, begin, copy_of, end};
-use druid_asked_text::{asked_value, asked_values, read_asked};
-use druid_context::timeout_of;
+use druid_http_wire::Response;
 use druid_partial::Partial;
 use druid_partial_text::{
     NodeAnswer, PartialFault, answer_of, node_answer_text, read_node_answer, read_partial,
 };
 use druid_query::{Aggregator, AggregatorKind, Dimension, Query, QueryFault, SubQuery};
+use druid_query_context::timeout_of;
+use druid_query_slice_text::{asked_value, asked_values, read_asked};
 use druid_query_text::{
     query_of, query_text, query_value, read_query, read_subquery, subquery_of, subquery_text,
     subquery_value,
 };
-use druid_wire::Response;
 use http::StatusCode;
 use serde_json::Value;
 use std::alloc::{AllocError, Global};

@@ -1,9 +1,9 @@
 //! Instants, identifiers, descriptors and replies.
 use crate::marks::{assert_call, begin, copy_of, end};
 use crate::texts::prints;
-use druid_segid::{GroupKey, IdFault, Name, SegmentId, Version};
-use druid_shard::{Body, Change, Descriptor, Mark, Reply, ReplyFault};
-use druid_shard_text::{ShardFault, descriptor_value, read_descriptor};
+use druid_segment_descriptor::{Body, Change, Descriptor, Mark, Reply, ReplyFault};
+use druid_segment_id::{GroupKey, IdFault, Name, SegmentId, Version};
+use druid_segment_text::{ShardFault, descriptor_value, read_descriptor};
 use druid_time::{Interval, IntervalSet};
 use std::alloc::Global;
 use std::process::Abort;

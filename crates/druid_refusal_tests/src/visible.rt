@@ -1,12 +1,12 @@
 //! Members, chunks and timelines.
 use crate::marks::{assert_call, begin, copy_of, end};
 use crate::values::{day, descriptor, name, segment};
-use druid_chunks::{Chunks, Transaction as ChunksTransaction};
-use druid_members::Members;
-use druid_segid::Meter;
-use druid_shard::Descriptor;
+use druid_segment_descriptor::Descriptor;
+use druid_segment_id::Meter;
 use druid_time::IntervalSet;
 use druid_timeline::{Partitions, Timeline, TimelineFault, Transaction};
+use druid_timeline_chunks::{Chunks, Transaction as ChunksTransaction};
+use druid_timeline_members::Members;
 use std::alloc::Global;
 use std::process::Abort;
 

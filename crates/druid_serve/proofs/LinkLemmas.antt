@@ -2,19 +2,19 @@
 use Rattle.std.proofs.Common.{◌++◌, ◌≡◌, ◌≢◌, ◌<◌, ◌≤◌, ◌⊎◌, ℕ, zero, suc, Bool, true, false, List, [], ◌∷◌, length, map, Option, Some, Ok, Err, Result, inl, inr, refl, sym, ap, ◌∙◌, subst, slice_get, get_or, option_map, unwrap_or, codes, bytes_eq, IfOk, IfErr}
 use Rattle.std.proofs.lemmas.Option.{slice_get_within, slice_get-get_or, slice_get-map}
 use Rattle.std.proofs.lemmas.List.{length-map}
-use Rattle.druid_config.specs.Configs.{Node, names_of}
+use Rattle.druid_serve_config.specs.Configs.{Node, names_of}
 use Rattle.druid_link.specs.TcpLinks.{TcpLinkValue}
-use Rattle.druid_message.specs.Requests.{RequestValue, path_of}
-use Rattle.druid_message.specs.declared.fault.WireFault.{WireFault}
+use Rattle.druid_http_message.specs.Requests.{RequestValue, path_of}
+use Rattle.druid_http_message.specs.declared.fault.WireFault.{WireFault}
 use Rattle.druid_query.specs.Query.{Query}
 use Rattle.druid_inventory.specs.Entry.{Entry, fresh}
-use Rattle.druid_published.specs.Fold.{Published, fold_of}
-use Rattle.druid_scatter.specs.Gathered.{Exchange, AreMade, Leads}
-use Rattle.druid_wire.specs.Served.{Serves, IsServed, FailsToServe}
+use Rattle.druid_inventory_views.specs.Fold.{Published, fold_of}
+use Rattle.druid_broker_scatter.specs.Gathered.{Exchange, AreMade, Leads}
+use Rattle.druid_http_wire.specs.Served.{Serves, IsServed, FailsToServe}
 use Rattle.druid_broker.specs.Queries.{AnswersQuery, WantsMemory}
 use Rattle.druid_broker.specs.Routes.{Route, health, query, sources, load_status, entry, nowhere, route_of, AnswersPost, AnswersAt}
 use Rattle.druid_broker.specs.Views.{RespondsAt}
-use Rattle.druid_scatter.specs.Order.{turned, ailing_last}
+use Rattle.druid_broker_scatter.specs.Order.{turned, ailing_last}
 use Rattle.druid_serve.specs.Answers.{Over, Responds, IsServedBy}
 use Rattle.druid_serve.specs.Links.{NodeLinkValue, LeadTo, IsLinkAt, IsFresh, AreFresh, opening_of}
 

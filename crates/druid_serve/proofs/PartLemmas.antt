@@ -3,7 +3,7 @@ use Rattle.std.proofs.Common.{All, map, ◌≡◌, ◌∙◌, ◌++◌, ℕ, suc
 use Rattle.std.specs.Io.KnownBytes.{Appends}
 use Rattle.std.proofs.KnownBytes.{Appends-trans}
 use Rattle.std.proofs.lemmas.List.Sums.{count_by_more_yes, count_by_more_no}
-use Rattle.druid_server.specs.Printed.{ArePrinted}
+use Rattle.druid_serve_base.specs.Printed.{ArePrinted}
 use Rattle.druid_serve.specs.Served.{PrintsIf}
 use Rattle.std.specs.List.{range_with_len}
 use Rattle.std.proofs.lemmas.List.{map-id, map-append, append-nil}

@@ -1,12 +1,12 @@
 -- What a worker of a broker answers.
 use Rattle.std.specs.Prelude.{◌≡◌, ℕ, List, Option}
 use Rattle.druid_inventory.specs.Entry.{Entry}
-use Rattle.druid_published.specs.Fold.{Published}
+use Rattle.druid_inventory_views.specs.Fold.{Published}
 use Rattle.druid_link.specs.Links.{Came}
 use Rattle.druid_link.specs.TcpLinks.{ExchangesOverTcp}
-use Rattle.druid_message.specs.Requests.{RequestValue}
-use Rattle.druid_scatter.specs.Order.{turned, ailing_last}
-use Rattle.druid_wire.specs.Served.{IsServed}
+use Rattle.druid_http_message.specs.Requests.{RequestValue}
+use Rattle.druid_broker_scatter.specs.Order.{turned, ailing_last}
+use Rattle.druid_http_wire.specs.Served.{IsServed}
 use Rattle.druid_broker.specs.Views.{RespondsBy}
 use Rattle.druid_serve.specs.Links.{NodeLinkValue}
 

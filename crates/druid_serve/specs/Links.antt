@@ -2,9 +2,9 @@
 use Rattle.std.specs.Prelude.{◌≡◌, ℕ, ◌*◌, List, [], map, length, Some}
 use Rattle.std.specs.Duration.{as_nanos}
 use Rattle.std.specs.List.{slice_get}
-use Rattle.druid_config.specs.Configs.{Node, names_of}
+use Rattle.druid_serve_config.specs.Configs.{Node, names_of}
 use Rattle.druid_inventory.specs.Entry.{Entry, fresh}
-use Rattle.druid_health.specs.Monitored.{Monitored}
+use Rattle.druid_link_health.specs.Monitored.{Monitored}
 use Rattle.druid_link.specs.TcpLinks.{TcpLinkValue}
 
 -- a link whose exchanges are noted as those of a node

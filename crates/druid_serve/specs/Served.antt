@@ -2,13 +2,13 @@
 use Rattle.std.specs.Prelude.{◌≡◌, ◌⊎◌, ℕ, Bool, true, false, List, count_by, option_map, ⊤, Option, Some, None, Result, Ok, Err}
 use Rattle.std.specs.Io.KnownBytes.{Appends}
 use Rattle.serde_json.specs.Data.{Data}
-use Rattle.druid_config.specs.Configs.{Reported, config_at}
-use Rattle.druid_config.specs.Parts.{words_of, is_part, has_broker}
+use Rattle.druid_serve_config.specs.Configs.{Reported, config_at}
+use Rattle.druid_serve_config.specs.Parts.{words_of, is_part, has_broker}
 use Rattle.druid_base.specs.Json.{ReadsAs}
-use Rattle.druid_server.specs.Printed.{ArePrinted, IsPrinted}
+use Rattle.druid_serve_base.specs.Printed.{ArePrinted, IsPrinted}
 use Rattle.druid_link.specs.Links.{Came}
-use Rattle.druid_server.specs.declared.serve_fault.ServeFault.{ServeFault}
-use Rattle.druid_server.specs.declared.serve_fault.ServeFault.TheVariants.{BadConfig, BadFolder, Device}
+use Rattle.druid_serve_base.specs.declared.serve_fault.ServeFault.{ServeFault}
+use Rattle.druid_serve_base.specs.declared.serve_fault.ServeFault.TheVariants.{BadConfig, BadFolder, Device}
 
 -- the servers that a text names, and all where there is none
 abbrev pub named : Option (List ℕ) → Option (List (List ℕ))

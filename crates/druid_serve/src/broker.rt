@@ -1,25 +1,25 @@
 //! A broker, and the threads of it that follow the nodes.
 ghost use Rattle.std.specs.Prelude.{◌≡◌, ◌<◌, ◌≤◌, ◌+◌, List, IfOk, OnOk, length, vec_len};
 ghost use Rattle.std.specs.Arc.{arc_value};
-ghost use Rattle.druid_config.specs.Limits.{max_workers};
+ghost use Rattle.druid_serve_config.specs.Limits.{max_workers};
 ghost use Rattle.druid_inventory.specs.Entry.{max_nodes};
-ghost use Rattle.druid_follow.specs.Turns.{Turn, MakesTurns, count_of};
+ghost use Rattle.druid_broker_follow.specs.Turns.{Turn, MakesTurns, count_of};
 ghost use Rattle.druid_serve.specs.Links.{IsLinkAt, opening_of};
 
 use crate::links::{NodeLink, NodeList, link_to};
 use crate::status::{BrokerStatus, FollowedNode};
 use crate::worker::{Shared, Worker, start_worker, worker_of};
-use druid_config::NodeConfig;
-use druid_follow::{TurnCount, follow_observed, follow_on_observed};
-use druid_health::{Asker, Health};
+use druid_broker_follow::{TurnCount, follow_observed, follow_on_observed};
+use druid_broker_watcher::TurnWatcher;
 use druid_inventory::Inventory;
+use druid_inventory_views::{Opened, Publication, View, open};
 use druid_link::Link;
-use druid_log::Log;
-use druid_metrics::FollowMeter;
-use druid_published::{Opened, Publication, View, open};
-use druid_server::{DeviceFailed, Gate, Handover, Host, Source, Telemetry, start_status};
-use druid_shard::NodeNo;
-use druid_watcher::TurnWatcher;
+use druid_link_health::{Asker, Health};
+use druid_segment_descriptor::NodeNo;
+use druid_serve_base::{DeviceFailed, Gate, Handover, Host, Source, Telemetry, start_status};
+use druid_serve_config::NodeConfig;
+use druid_telemetry_log::Log;
+use druid_telemetry_metrics::FollowMeter;
 use std::alloc::{AllocError, Global};
 use std::net::{Net, TcpListener, TcpStream};
 use std::sync::{Arc, Mutex, Wait};

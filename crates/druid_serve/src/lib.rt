@@ -15,5 +15,5 @@ mod serving;
 mod status;
 mod worker;
 
-pub use druid_server::{PEER_SECONDS, ServeFault};
+pub use druid_serve_base::{PEER_SECONDS, ServeFault};
 pub use serving::serve;

@@ -4,10 +4,10 @@ ghost use Rattle.std.specs.Arc.{arc_value};
 ghost use Rattle.druid_inventory.specs.Entry.{max_nodes};
 ghost use Rattle.druid_serve.specs.Links.{IsFresh, AreFresh};
 
-use druid_config::NodeConfig;
-use druid_health::{Asker, Health, MonitoredLink};
 use druid_link::TcpLink;
-use druid_shard::NodeNo;
+use druid_link_health::{Asker, Health, MonitoredLink};
+use druid_segment_descriptor::NodeNo;
+use druid_serve_config::NodeConfig;
 use std::alloc::{AllocError, Global};
 use std::marker::Brand;
 use std::net::Net;
@@ -17,7 +17,7 @@ use std::time::{Clock, Duration};
 /// The nodes of a cluster. Threads know what they begin with by its type alone, so the list is a matter of types.
 pub(crate) trait NodeList {
     ghost use Rattle.std.specs.Prelude.{List};
-    ghost use Rattle.druid_config.specs.Configs.{Node};
+    ghost use Rattle.druid_serve_config.specs.Configs.{Node};
 
     ghost nodes: { List Node };
 }

@@ -1,8 +1,8 @@
 //! A cluster without an end.
 ghost use Rattle.std.specs.Prelude.{◌≡◌, OnOk};
 
-use druid_config::{BrokerConfig, Config, NodeConfig, Part};
-use druid_server::{ClusterFault, Stop};
+use druid_serve_base::{ClusterFault, Stop};
+use druid_serve_config::{BrokerConfig, Config, NodeConfig, Part};
 use std::alloc::Global;
 use std::io::Write;
 use std::sync::Wait;

@@ -2,26 +2,28 @@
 ghost use Rattle.std.specs.Prelude.{◌≡◌, ◌<◌, ◌≤◌, ℕ, List, Err, All, IfOk, IfErr, OnOk, length, vec_len, map, filter, count_by, option_map};
 ghost use Rattle.std.specs.List.{range_with_len};
 ghost use Rattle.std.specs.Io.KnownBytes.{Appends, Keeps};
-ghost use Rattle.druid_shard.specs.Reply.{max_changes};
+ghost use Rattle.druid_segment_descriptor.specs.Reply.{max_changes};
 ghost use Rattle.druid_inventory.specs.Entry.{max_nodes};
 ghost use Rattle.druid_serve.specs.Links.{opening_of};
-ghost use Rattle.druid_server.specs.Printed.{ArePrinted};
-ghost use Rattle.druid_config.specs.Configs.{reported_of};
-ghost use Rattle.druid_config.specs.Limits.{max_workers};
-ghost use Rattle.druid_config.specs.Parts.{has_node, has_broker};
+ghost use Rattle.druid_serve_base.specs.Printed.{ArePrinted};
+ghost use Rattle.druid_serve_config.specs.Configs.{reported_of};
+ghost use Rattle.druid_serve_config.specs.Limits.{max_workers};
+ghost use Rattle.druid_serve_config.specs.Parts.{has_node, has_broker};
 ghost use Rattle.druid_serve.specs.Served.{named, IsPart, RefusesPart, IsConfig, IsServed, PrintsIf, ServesAs};
 
 use crate::broker::{Broker, BrokerParts, EndOfTurns, Pace, start_broker};
 use crate::links::NodeList;
 use crate::live::serve_on;
-use druid_config::{BrokerConfig, Config, NodeConfig, Part, QueryConfig, names_in, read_config};
 use druid_inventory::Inventory;
-use druid_log::Log;
-use druid_published::Opened;
-use druid_serve_node::{EndOfLoads, Loading, start_node, start_owner};
-use druid_server::{
+use druid_inventory_views::Opened;
+use druid_serve_base::{
     ClusterFault, DeviceFailed, Gate, Handover, Host, ServeFault, Stop, Telemetry, ask, listen,
 };
+use druid_serve_config::{
+    BrokerConfig, Config, NodeConfig, Part, QueryConfig, names_in, read_config,
+};
+use druid_serve_node::{EndOfLoads, Loading, start_node, start_owner};
+use druid_telemetry_log::Log;
 use std::alloc::{AllocError, Global};
 use std::fs::File;
 use std::io::Write;

@@ -1,12 +1,12 @@
 //! What a broker tells at its status address.
 ghost use Rattle.std.specs.Prelude.{◌≡◌, true};
 
-use druid_health::{Counts, FAULTS, Health};
-use druid_metrics::{
+use druid_link_health::{Counts, FAULTS, Health};
+use druid_segment_descriptor::NodeNo;
+use druid_serve_base::{Status, Telemetry};
+use druid_telemetry_metrics::{
     Family, FollowMeter, Followed, broker_families, render, server_families, server_histogram,
 };
-use druid_server::{Status, Telemetry};
-use druid_shard::NodeNo;
 use std::alloc::{AllocError, Global};
 use std::sync::Arc;
 

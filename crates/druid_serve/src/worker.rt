@@ -1,8 +1,8 @@
 //! The threads of a broker that answer.
 ghost use Rattle.std.specs.Prelude.{◌≡◌, ◌≤◌, ◌+◌, ◌-◌, ◌^◌, ℕ, List, [], Some, min, if◌then◌else◌, IfOk, IfSome, length, vec_len};
-ghost use Rattle.druid_config.specs.Configs.{Node};
+ghost use Rattle.druid_serve_config.specs.Configs.{Node};
 ghost use Rattle.druid_inventory.specs.Entry.{max_nodes};
-ghost use Rattle.druid_front.specs.Answers.{IsAnswer};
+ghost use Rattle.druid_serve_front.specs.Answers.{IsAnswer};
 ghost use Rattle.druid_serve.specs.Links.{LeadTo};
 ghost use Rattle.druid_serve.specs.Answers.{IsServedBy};
 ghost use mathlib.Core.List.{IsPrefix};
@@ -10,16 +10,16 @@ ghost use mathlib.Core.List.{IsPrefix};
 use crate::links::{NodeLink, NodeList, links_to};
 use crate::status::FollowedNode;
 use druid_broker::{Routes, serve_one};
-use druid_config::NodeConfig;
-use druid_front::{Job, Jobs, answer_jobs, close_answered};
-use druid_health::{Health, monotonic_millis};
-use druid_log::Event;
-use druid_message::WireFault;
-use druid_metrics::CountedWriter;
-use druid_published::{Publication, Publisher, View};
-use druid_scatter::AilingLast;
-use druid_server::{DeviceFailed, Gate, Host, Source, Telemetry, answer_each, limit};
-use druid_shard::NodeNo;
+use druid_broker_scatter::AilingLast;
+use druid_http_message::WireFault;
+use druid_inventory_views::{Publication, Publisher, View};
+use druid_link_health::{Health, monotonic_millis};
+use druid_segment_descriptor::NodeNo;
+use druid_serve_base::{DeviceFailed, Gate, Host, Source, Telemetry, answer_each, limit};
+use druid_serve_config::NodeConfig;
+use druid_serve_front::{Job, Jobs, answer_jobs, close_answered};
+use druid_telemetry_log::Event;
+use druid_telemetry_metrics::CountedWriter;
 use std::alloc::Global;
 use std::io::{BufRead, BufReader, BufWriter, Write};
 use std::net::{Net, TcpListener, TcpStream};
@@ -239,7 +239,7 @@ fn answer_connections<
 
 // Answers the bytes of a request that a front thread read: the status of the answer, and its text. None where memory runs out before
 // the answer stands.
-#[tactic(auto, using(druid_front::proofs::AnswerLemmas::served_is_answer))]
+#[tactic(auto, using(druid_serve_front::proofs::AnswerLemmas::served_is_answer))]
 fn answer_bytes<
     R: Net<Listener = TcpListener, Stream = TcpStream> + Host + Copy + Send + Sync,
     J: Publication,

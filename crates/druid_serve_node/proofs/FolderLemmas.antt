@@ -4,7 +4,7 @@ use Rattle.std.specs.declared.alloc.Global.{Global}
 use Rattle.std.specs.declared.string.String.{String}
 use Rattle.std.proofs.lemmas.List.{map_more}
 use Rattle.std.proofs.lemmas.List.Elements.{All-push}
-use Rattle.druid_rows.specs.Segment.{Segment}
+use Rattle.druid_segment_rows.specs.Segment.{Segment}
 use Rattle.druid_folder.specs.Folder.{Content, names_of, read_part}
 use Rattle.druid_node.specs.Files.{file_at}
 use Rattle.druid_serve_node.specs.Files.{IsTaken}

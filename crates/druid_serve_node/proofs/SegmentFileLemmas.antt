@@ -7,15 +7,15 @@ use Rattle.std.proofs.lemmas.List.Elements.{All-cons, All-tail, All-take, All-dr
 use Rattle.std.proofs.lemmas.List.{take-append-drop}
 use Rattle.std.proofs.lemmas.Bool.{false≢true}
 use Rattle.std.proofs.lemmas.Result.{IfOk-weaker}
-use Rattle.druid_rows.specs.Segment.{Segment}
+use Rattle.druid_segment_rows.specs.Segment.{Segment}
 use Rattle.druid_folder.specs.Folder.{Content, names_of, read_part, bytes_read}
 use Rattle.druid_node.specs.declared.fault.NodeFault.{NodeFault}
 use Rattle.druid_node.specs.Files.{file_at}
 use Rattle.druid_node.proofs.FileLemmas.{decoded_at}
-use Rattle.druid_server.specs.declared.fault.ClusterFault.{ClusterFault}
-use Rattle.druid_server.specs.declared.fault.Cause.{Cause}
-use Rattle.druid_server.specs.declared.fault.Cause.TheVariants as cause
-use Rattle.druid_server.specs.Faults.{of_node, NamesFile}
+use Rattle.druid_serve_base.specs.declared.fault.ClusterFault.{ClusterFault}
+use Rattle.druid_serve_base.specs.declared.fault.Cause.{Cause}
+use Rattle.druid_serve_base.specs.declared.fault.Cause.TheVariants as cause
+use Rattle.druid_serve_base.specs.Faults.{of_node, NamesFile}
 use Rattle.druid_serve_node.specs.Faults.{IsOfLoad}
 use Rattle.druid_serve_node.specs.Files.{is_segment_file, IsTaken}
 use Rattle.druid_serve_node.specs.SegmentFiles.{IsRead, IsDecodedOf, IsFound}

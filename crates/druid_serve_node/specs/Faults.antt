@@ -1,10 +1,10 @@
 -- What is named of a start that failed.
 use Rattle.std.specs.Prelude.{◌≡◌, ◌<◌, ℕ, true, string_bytes}
-use Rattle.druid_server.specs.declared.fault.ClusterFault.{ClusterFault}
-use Rattle.druid_server.specs.declared.fault.ClusterFault.TheVariants.{Device}
-use Rattle.druid_server.specs.declared.fault.Cause.{Cause}
-use Rattle.druid_server.specs.declared.fault.Cause.TheVariants as cause
-use Rattle.druid_server.specs.Faults.{of_store, of_node}
+use Rattle.druid_serve_base.specs.declared.fault.ClusterFault.{ClusterFault}
+use Rattle.druid_serve_base.specs.declared.fault.ClusterFault.TheVariants.{Device}
+use Rattle.druid_serve_base.specs.declared.fault.Cause.{Cause}
+use Rattle.druid_serve_base.specs.declared.fault.Cause.TheVariants as cause
+use Rattle.druid_serve_base.specs.Faults.{of_store, of_node}
 use Rattle.druid_serve_node.specs.Files.{is_segment_file}
 
 -- what is named of the fault of a raise of the incarnation: its file, or memory

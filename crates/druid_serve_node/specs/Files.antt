@@ -1,8 +1,8 @@
 -- What a data node takes of its folder.
 use Rattle.std.specs.Prelude.{◌≡◌, ℕ, Bool, true, List, codes, Option, Some, Ok, IsSome, bytes_eq, drop, length, ◌-◌, ◌+◌}
-use Rattle.druid_rows.specs.Segment.{Segment}
+use Rattle.druid_segment_rows.specs.Segment.{Segment}
 use Rattle.druid_folder.specs.Folder.{Content, read_part}
-use Rattle.druid_incarnation.specs.Incarnation.{HasNumber, number_text}
+use Rattle.druid_folder_incarnation.specs.Incarnation.{HasNumber, number_text}
 use Rattle.druid_node.specs.Files.{file_at}
 
 -- the name ends as those of segment files do

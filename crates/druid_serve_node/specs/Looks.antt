@@ -2,7 +2,7 @@
 use Rattle.std.specs.Prelude.{◌≡◌, ◌⊎◌, ◌&&◌, ℕ, ◌+◌, ◌-◌, ◌^◌, min, nat_le, Bool, true, false, List, [], ◌∷◌, map, not, bytes_eq, Option, Some, None, if◌then◌else◌}
 use Rattle.std.specs.List.{filter, list_any, FoldsTo}
 use Rattle.std.specs.declared.cmp.Ordering.TheVariants.{Less}
-use Rattle.druid_shard.specs.Mark.{Point, mark_cmp}
+use Rattle.druid_segment_descriptor.specs.Mark.{Point, mark_cmp}
 use Rattle.druid_node.specs.Files as files
 use Rattle.druid_node.specs.Files.{file_name}
 use Rattle.druid_serve_node.specs.Files.{is_segment_file}

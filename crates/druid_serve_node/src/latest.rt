@@ -3,16 +3,16 @@
 //! is not found where the thread's function has four type parameters.
 ghost use Rattle.std.specs.Prelude.{◌≡◌, ◌≢◌};
 ghost use Rattle.std.specs.declared.cmp.Ordering.TheVariants.{Greater};
-ghost use Rattle.druid_shard.specs.Mark.{mark_cmp};
+ghost use Rattle.druid_segment_descriptor.specs.Mark.{mark_cmp};
 
-use druid_shard::Mark;
+use druid_segment_descriptor::Mark;
 use std::marker::{Brand, Model, PhantomData};
 use std::sync::{Mutex, Wait};
 
 /// The mark of a node once the loads of its start are over. What threads share is known by its type alone, so this mark is a matter
 /// of types.
 pub trait Begun {
-    ghost use Rattle.druid_shard.specs.Mark.{Point};
+    ghost use Rattle.druid_segment_descriptor.specs.Mark.{Point};
 
     ghost mark: { Point };
 }
@@ -32,7 +32,7 @@ struct Since<J: Begun> {
 impl<J: Begun> Model for Since<J> {
     ghost use Rattle.std.specs.Prelude.{◌≡◌, ◌≢◌};
     ghost use Rattle.std.specs.declared.cmp.Ordering.TheVariants.{Greater};
-    ghost use Rattle.druid_shard.specs.Mark.{Point, mark_cmp};
+    ghost use Rattle.druid_segment_descriptor.specs.Mark.{Point, mark_cmp};
 
     ghost Value = { Point };
 

@@ -4,16 +4,16 @@
 //! start loads all that is there, and so a loader finds only what came after.
 ghost use Rattle.std.specs.Prelude.{◌≡◌, ◌≢◌};
 ghost use Rattle.std.specs.declared.cmp.Ordering.TheVariants.{Greater};
-ghost use Rattle.druid_shard.specs.Mark.{mark_cmp};
+ghost use Rattle.druid_segment_descriptor.specs.Mark.{mark_cmp};
 
 use crate::latest::{Begun, Latest};
 use crate::owner::Owner;
 use crate::reporter::Reporter;
 use crate::watch::Watch;
 use druid_folder::Folder;
+use druid_folder_store::{Device, DiskFolder};
 use druid_node::{DataNode, Incarnation};
-use druid_server::{DeviceFailed, Handover, Host};
-use druid_store::{Device, DiskFolder};
+use druid_serve_base::{DeviceFailed, Handover, Host};
 use std::alloc::Global;
 use std::fs::File;
 use std::rt::Files;

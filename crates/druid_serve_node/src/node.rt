@@ -2,9 +2,9 @@
 //! of what is served already, ends the start as a segment file does: a config that says that an
 //! interval is empty is not half followed.
 ghost use Rattle.std.specs.Prelude.{◌≡◌, ◌≤◌, [], Some, length, IfOk, IfErr, IfSome, OnOk, map, string_bytes};
-ghost use Rattle.druid_shard.specs.Reply.{max_changes};
-ghost use Rattle.druid_changes.specs.Kept.{StandsFor};
-ghost use Rattle.druid_incarnation.specs.Incarnation.{number_file, number_text};
+ghost use Rattle.druid_segment_descriptor.specs.Reply.{max_changes};
+ghost use Rattle.druid_sync_history.specs.Kept.{StandsFor};
+ghost use Rattle.druid_folder_incarnation.specs.Incarnation.{number_file, number_text};
 ghost use Rattle.druid_serve_node.specs.Faults.{IsOfRaise, IsOfLoad, IsOfPlacing};
 ghost use Rattle.druid_serve_node.specs.Files.{HoldsSegments, IsStarted};
 
@@ -17,19 +17,19 @@ use crate::segment_files::{keep_segment_files, load_named};
 use crate::status::NodeStatus;
 use crate::watch::Watch;
 use crate::worker::start_worker;
-use druid_changes::HistoryFault;
-use druid_config::NodeConfig;
 use druid_folder::{Folder, StoreFault};
-use druid_incarnation::next_incarnation;
-use druid_log::Log;
-use druid_metrics::NodeMeter;
+use druid_folder_incarnation::next_incarnation;
+use druid_folder_store::{Device, DiskFolder};
 use druid_node::{DataNode, Incarnation, NodeFault, NodeState};
-use druid_segid::SegmentId;
-use druid_server::{
+use druid_segment_descriptor::Mark;
+use druid_segment_id::SegmentId;
+use druid_serve_base::{
     Cause, Gate, Handover, Host, Source, StartFault, Telemetry, listen, start_status,
 };
-use druid_shard::Mark;
-use druid_store::{Device, DiskFolder};
+use druid_serve_config::NodeConfig;
+use druid_sync_history::HistoryFault;
+use druid_telemetry_log::Log;
+use druid_telemetry_metrics::NodeMeter;
 use std::alloc::{AllocError, Global};
 use std::fs::File;
 use std::marker::Brand;

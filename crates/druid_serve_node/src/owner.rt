@@ -2,10 +2,10 @@
 //! That nobody but its node changes a folder is still a premise: the lock stops other nodes, and
 //! not hands.
 ghost use Rattle.std.specs.Prelude.{◌≡◌, IfErr};
-ghost use Rattle.druid_server.specs.declared.fault.ClusterFault.TheVariants.{Device};
+ghost use Rattle.druid_serve_base.specs.declared.fault.ClusterFault.TheVariants.{Device};
 
 use druid_folder::StoreFault;
-use druid_server::{Cause, StartFault};
+use druid_serve_base::{Cause, StartFault};
 use std::fs;
 use std::fs::{File, TryLockError};
 use std::rt::Files;

@@ -1,10 +1,10 @@
 //! What a node tells of the files of its folder: lines of the log, and the numbers of what it
 //! holds.
-use druid_log::{Event, Level, Refusals, code_in};
-use druid_metrics::{NodeMeter, NodeState};
 use druid_node::{LoadedFile, NodeFault};
-use druid_server::Telemetry;
-use druid_shard::Mark;
+use druid_segment_descriptor::Mark;
+use druid_serve_base::Telemetry;
+use druid_telemetry_log::{Event, Level, Refusals, code_in};
+use druid_telemetry_metrics::{NodeMeter, NodeState};
 use std::alloc::{AllocError, Global};
 use std::sync::{Arc, Wait};
 use std::time::Clock;

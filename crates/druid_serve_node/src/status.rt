@@ -1,8 +1,10 @@
 //! What a node tells at its status address.
 ghost use Rattle.std.specs.Prelude.{◌≡◌, false};
 
-use druid_metrics::{Family, NodeMeter, node_families, render, server_families, server_histogram};
-use druid_server::{Status, Telemetry};
+use druid_serve_base::{Status, Telemetry};
+use druid_telemetry_metrics::{
+    Family, NodeMeter, node_families, render, server_families, server_histogram,
+};
 use std::alloc::{AllocError, Global};
 use std::sync::Arc;
 

@@ -4,7 +4,7 @@
 ghost use Rattle.std.specs.Prelude.{◌≡◌, ◌≢◌, List, ℕ, Err, IfErr, OnOk};
 ghost use Rattle.std.specs.List.{FoldsTo};
 ghost use Rattle.std.specs.declared.cmp.Ordering.TheVariants.{Greater};
-ghost use Rattle.druid_shard.specs.Mark.{mark_cmp};
+ghost use Rattle.druid_segment_descriptor.specs.Mark.{mark_cmp};
 ghost use Rattle.druid_folder.specs.Folder.{AreNames, names_of, faults_at, IsOwnFault};
 ghost use Rattle.druid_serve_node.specs.Looks.{due_names, IsTried, IsGone, IsLook};
 
@@ -12,7 +12,7 @@ use crate::known::Known;
 use crate::reporter::Reporter;
 use druid_folder::{Folder, StoreFault};
 use druid_node::{DataNode, Incarnation};
-use druid_shard::Mark;
+use druid_segment_descriptor::Mark;
 use std::alloc::{AllocError, Global};
 use std::marker::Model;
 use std::sync::Wait;

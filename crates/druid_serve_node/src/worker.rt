@@ -1,16 +1,16 @@
 //! The threads of a node that answer.
 ghost use Rattle.std.specs.Prelude.{◌≡◌, ◌≢◌, ℕ, List, [], Some, IfOk, IfSome};
 ghost use Rattle.std.specs.declared.cmp.Ordering.TheVariants.{Greater};
-ghost use Rattle.druid_shard.specs.Mark.{Point, mark_cmp};
+ghost use Rattle.druid_segment_descriptor.specs.Mark.{Point, mark_cmp};
 ghost use Rattle.druid_node.specs.Seen.{IsServedAsSeen};
-ghost use Rattle.druid_front.specs.Answers.{IsAnswer};
+ghost use Rattle.druid_serve_front.specs.Answers.{IsAnswer};
 
 use crate::latest::{Begun, Latest};
-use druid_front::{Job, Jobs, answer_jobs, close_answered};
-use druid_metrics::CountedWriter;
 use druid_node::{DataNode, Incarnation, NodeFault};
-use druid_server::{DeviceFailed, Host, Source, Telemetry, answer_each, limit};
-use druid_shard::Mark;
+use druid_segment_descriptor::Mark;
+use druid_serve_base::{DeviceFailed, Host, Source, Telemetry, answer_each, limit};
+use druid_serve_front::{Job, Jobs, answer_jobs, close_answered};
+use druid_telemetry_metrics::CountedWriter;
 use std::alloc::Global;
 use std::io::{BufRead, BufReader, BufWriter, Write};
 use std::net::{TcpListener, TcpStream};
@@ -112,7 +112,7 @@ fn answer_connections<R: Host, I: Incarnation, J: Begun>(
 
 // Answers the bytes of a request that a front thread read: the status of the answer, and its text. None where memory runs out before
 // the answer stands.
-#[tactic(auto, using(druid_front::proofs::AnswerLemmas::served_is_answer))]
+#[tactic(auto, using(druid_serve_front::proofs::AnswerLemmas::served_is_answer))]
 fn answer_bytes<R: Host, I: Incarnation, J: Begun>(
     rt: &R,
     alloc: Global,

@@ -1,5 +1,5 @@
 //! Configs that are taken and that are refused.
-use druid_config::{ConfigFault, read_config};
+use druid_serve_config::{ConfigFault, read_config};
 use std::alloc::Global;
 use std::process::Abort;
 

@@ -1,9 +1,9 @@
 //! Folders with files of segments.
 use crate::host::Host;
-use druid_rows::{Row, Schema, Segment};
-use druid_segfile::write_segment;
-use druid_segid::{Name, SegmentId, Version};
-use druid_shard::Descriptor;
+use druid_segment_descriptor::Descriptor;
+use druid_segment_file::write_segment;
+use druid_segment_id::{Name, SegmentId, Version};
+use druid_segment_rows::{Row, Schema, Segment};
 use druid_time::{Instant, Interval};
 use std::alloc::Global;
 use std::path::{Path, PathBuf};

@@ -1,9 +1,9 @@
 //! What tests ask of the machine that they run on, and addresses of it.
-use druid_log::{Level, Log, open};
-use druid_metrics::NodeMeter;
 use druid_program::Environment;
+use druid_serve_base::Telemetry;
 use druid_serve_node::Reporter;
-use druid_server::Telemetry;
+use druid_telemetry_log::{Level, Log, open};
+use druid_telemetry_metrics::NodeMeter;
 use std::alloc::Global;
 use std::fs::File;
 use std::net::{Net, TcpListener, TcpStream};

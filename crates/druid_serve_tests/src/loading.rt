@@ -1,10 +1,10 @@
 //! Files that a node loads once it stands, and those that it finds by looks at its folder.
 use crate::host::reporter;
 use druid_folder::Folder;
+use druid_folder_store::MemoryFolder;
 use druid_node::{DataNode, Incarnation, NodeState};
+use druid_segment_descriptor::Mark;
 use druid_serve_node::{Known, Watch};
-use druid_shard::Mark;
-use druid_store::MemoryFolder;
 use std::alloc::Global;
 use std::process::Abort;
 use std::str;

@@ -6,8 +6,8 @@ use crate::live::{
 };
 use crate::serve::{Place, clear, place_of};
 use druid_link::Link;
-use druid_log::{Level, Log, open, write_lines};
 use druid_program::{Environment, serve_config};
+use druid_telemetry_log::{Level, Log, open, write_lines};
 use std::alloc::Global;
 use std::net::{Net, TcpListener, TcpStream};
 use std::process::Abort;

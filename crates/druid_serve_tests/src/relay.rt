@@ -2,9 +2,9 @@
 use crate::host::{Host, address_of, listener};
 use crate::live::link_to;
 use crate::serve::{Place, config};
-use druid_health::monotonic_millis;
+use druid_http_wire::{Missing, missing_of};
 use druid_link::Link;
-use druid_wire::{Missing, missing_of};
+use druid_link_health::monotonic_millis;
 use std::alloc::Global;
 use std::io::{Read, Write};
 use std::net::{Net, TcpListener, TcpStream};

@@ -4,7 +4,7 @@ use crate::host::Host;
 use crate::live::{ASK, NEWER, answered, link_to};
 use crate::relay::{Relay, relayed_config, start_relay};
 use crate::serve::{Place, assert_served, clear, place_of, served};
-use druid_health::monotonic_millis;
+use druid_link_health::monotonic_millis;
 use std::alloc::Global;
 use std::net::{Net, TcpListener, TcpStream};
 use std::process::Abort;

@@ -5,7 +5,7 @@ use crate::folders::{
 use crate::host::{Host, address_of, environment, listener};
 use druid_link::{Link, TcpLink};
 use druid_program::{run, serve_config};
-use druid_server::Handover;
+use druid_serve_base::Handover;
 use std::alloc::Global;
 use std::io::{ErrorKind, Write};
 use std::net::{Net, TcpListener, TcpStream};

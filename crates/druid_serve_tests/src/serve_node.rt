@@ -3,8 +3,8 @@ ghost use Rattle.std.specs.Prelude.{◌≤◌};
 
 use crate::folders::{LATER_FILE, OLDER_FILE, file_bytes, fresh_folder, put, put_parts};
 use crate::host::{Host, free_address, quiet_log};
-use druid_config::{Config, read_config};
 use druid_link::{Link, TcpLink};
+use druid_serve_config::{Config, read_config};
 use druid_serve_node::{start_node, start_owner};
 use std::alloc::Global;
 use std::io::{Read, Write};

@@ -2,10 +2,10 @@
 //! file that is refused.
 use crate::folders::{LATER_FILE, LONG_FILE, file_bytes, fresh_folder, long_bytes, put, put_parts};
 use crate::host::{Host, free_address, quiet_log};
-use druid_config::{Config, read_config};
 use druid_link::{Link, TcpLink};
+use druid_serve_base::{Cause, StartFault};
+use druid_serve_config::{Config, read_config};
 use druid_serve_node::{Loading, start_node};
-use druid_server::{Cause, StartFault};
 use std::alloc::Global;
 use std::marker::Brand;
 use std::net::{Net, TcpListener, TcpStream};

@@ -1,7 +1,7 @@
 //! Servers that answer one connection while another waits, and how long they wait for one.
 use crate::host::Host;
 use crate::serve::{assert_served, clear, config, place_of, served, served_at};
-use druid_server::{PEER_SECONDS, limit};
+use druid_serve_base::{PEER_SECONDS, limit};
 use std::alloc::Global;
 use std::io;
 use std::io::{Read, Write};

@@ -6,12 +6,12 @@ use Rattle.std.specs.Map.{keys_of}
 use Rattle.std.specs.Result.{OnOk}
 use Rattle.std.proofs.lemmas.List.Elements.{filter-append, All-head}
 use Rattle.std.proofs.lemmas.Map.Keys.{IsDistinct-tail}
-use Rattle.druid_segid.specs.Identifier.{Identifier}
-use Rattle.druid_segid.specs.Group.{Group, group_of, same_group}
-use Rattle.druid_members.specs.Members.{Member, IsComplete, HasMember, HoldsPlace, ServesPlace, Adds, RemovesPlace, RemovesOne, SameMembers}
+use Rattle.druid_segment_id.specs.Identifier.{Identifier}
+use Rattle.druid_segment_id.specs.Group.{Group, group_of, same_group}
+use Rattle.druid_timeline_members.specs.Members.{Member, IsComplete, HasMember, HoldsPlace, ServesPlace, Adds, RemovesPlace, RemovesOne, SameMembers}
 use Rattle.druid_base.proofs.MemberLemmas.{Contains-nil, Contains-later, Contains-map, Contains-map_back, Contains-flat_map, Contains-flat_map_back}
-use Rattle.druid_chunks.specs.Chunks.{Chunk, AreChunks, members_at, IsCompleteOf}
-use Rattle.druid_chunks.proofs.ChunkLemmas.{same_group-same, same_group-other, cases_group, at_head, at_tail, head_alone, members_at-found, members_at-entry}
+use Rattle.druid_timeline_chunks.specs.Chunks.{Chunk, AreChunks, members_at, IsCompleteOf}
+use Rattle.druid_timeline_chunks.proofs.ChunkLemmas.{same_group-same, same_group-other, cases_group, at_head, at_tail, head_alone, members_at-found, members_at-entry}
 use Rattle.druid_timeline.specs.Holding.{Held, members_of, HoldsNothing, IsHeld, HasRows, IsPlaceOf, IsCompleteIn, AddsHeld, RemovesHeld, RemovesOneHeld, SameHeld}
 use Rattle.druid_timeline.specs.Chunks.{held_at, held_in}
 

@@ -8,8 +8,8 @@ use Rattle.std.proofs.lemmas.List.Elements.{Contains-append_left, Contains-appen
 use Rattle.std.proofs.lemmas.Map.Keys.{IsDistinct-cons}
 use Rattle.std.proofs.lemmas.Map.Made.{length-le_from_is_member, is_member-Decides}
 use Rattle.druid_time.specs.Extent.{Extent, Has}
-use Rattle.druid_segid.specs.Group.{Group, Outranks}
-use Rattle.druid_segid.proofs.GroupLemmas.{Outranks-one_way}
+use Rattle.druid_segment_id.specs.Group.{Group, Outranks}
+use Rattle.druid_segment_id.proofs.GroupLemmas.{Outranks-one_way}
 use Rattle.druid_base.proofs.MemberLemmas.{Contains-nil, Contains-cons, Contains-later, Contains-map, Contains-map_back}
 use Rattle.druid_timeline.specs.Edited.{HasOthers}
 use Rattle.druid_timeline.specs.Holding.{Held, IsCompleteIn}

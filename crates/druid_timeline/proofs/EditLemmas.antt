@@ -2,11 +2,11 @@
 use Rattle.std.proofs.Common.{◌≡◌, ◌⊎◌, ℕ, List, refl, sym, ◌∙◌, subst, inl, inr}
 use Rattle.std.specs.List.{Contains}
 use Rattle.std.proofs.lemmas.Bool.{cases_eq}
-use Rattle.druid_segid.specs.Identifier.{Identifier}
-use Rattle.druid_segid.specs.Group.{group_of}
-use Rattle.druid_shard.specs.Described.{Described}
+use Rattle.druid_segment_id.specs.Identifier.{Identifier}
+use Rattle.druid_segment_id.specs.Group.{group_of}
+use Rattle.druid_segment_descriptor.specs.Described.{Described}
 use Rattle.druid_timeline.specs.Holding.{Held, held_of, IsHeld, IsPlaceOf, OnePerPlace, AddsHeld, RemovesHeld, SameHeld}
-use Rattle.druid_chunks.proofs.ChunkLemmas.{cases_group}
+use Rattle.druid_timeline_chunks.proofs.ChunkLemmas.{cases_group}
 
 -- one is of the place or not
 pub IsPlaceOf-cases : (node : ℕ) (id : Identifier) (x : Held) → IsPlaceOf node id x ⊎ (IsPlaceOf node id x → ⊥)

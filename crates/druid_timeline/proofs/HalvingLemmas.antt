@@ -10,7 +10,7 @@ use Rattle.std.proofs.lemmas.List.Sorted.{IsNonDecreasingBy-from_all_adjacent}
 use Rattle.druid_base.proofs.OrderLemmas.{is_le-from}
 use Rattle.druid_time.specs.Extent.{Has}
 use Rattle.druid_time.proofs.ExtentLemmas.{at_most, above}
-use Rattle.druid_segid.specs.Group.{Group}
+use Rattle.druid_segment_id.specs.Group.{Group}
 use Rattle.druid_timeline.specs.Pieces.{shown_at, AreRuns, Shows}
 use Rattle.druid_timeline.proofs.RunsLemmas.{Shows-beyond}
 use Rattle.druid_timeline.proofs.SpliceLemmas.{Shows-member, split_at, runs_drop}

@@ -2,10 +2,10 @@
 use Rattle.std.proofs.Common.{◌≡◌, ℕ, Bool, true, false, cond, List, [], ◌∷◌, filter, ◌⊎◌, inl, inr, refl, sym, ap, subst, ◌∙◌, arith}
 use Rattle.std.specs.List.{Contains}
 use Rattle.std.proofs.lemmas.Bool.{false≢true}
-use Rattle.druid_segid.specs.Group.{Group, same_group}
-use Rattle.druid_members.specs.Members.{Member, IsComplete, SameMembers}
+use Rattle.druid_segment_id.specs.Group.{Group, same_group}
+use Rattle.druid_timeline_members.specs.Members.{Member, IsComplete, SameMembers}
 use Rattle.druid_base.proofs.MemberLemmas.{Contains-cons, Contains-later, Contains-nil, Contains-map, Contains-map_back}
-use Rattle.druid_members.proofs.SlotLemmas.{core_count-same}
+use Rattle.druid_timeline_members.proofs.SlotLemmas.{core_count-same}
 use Rattle.druid_timeline.specs.Holding.{Held, members_of, SameHeld}
 use Rattle.druid_timeline.specs.Overshadowed.{IsOvershadowed}
 use Rattle.druid_timeline.specs.Pieces.{Shown, ArePiecesIn}

@@ -8,8 +8,8 @@ use Rattle.std.proofs.lemmas.Bool.{cases_lt, lt-ltb, false≢true}
 use Rattle.std.proofs.lemmas.List.{map-append}
 use Rattle.druid_time.specs.Extent.{Extent, common}
 use Rattle.druid_base.proofs.MemberLemmas.{Contains-nil, Contains-cons, Contains-later}
-use Rattle.druid_members.specs.Members.{Member}
-use Rattle.druid_chunks.specs.Chunks.{Chunk, AreChunks, members_at}
+use Rattle.druid_timeline_members.specs.Members.{Member}
+use Rattle.druid_timeline_chunks.specs.Chunks.{Chunk, AreChunks, members_at}
 use Rattle.druid_timeline.specs.Chunks.{held_in}
 use Rattle.druid_timeline.specs.Holding.{members_of}
 use Rattle.druid_timeline.specs.Pieces.{Shown, shown_at, shown_of, AreRuns, ArePartitions, Reported, cut, cut_piece}

@@ -7,7 +7,7 @@ use Rattle.std.proofs.lemmas.List.Elements.{Contains-append_cases, Contains-push
 use Rattle.std.proofs.lemmas.Option.{none-some, same_Some}
 use Rattle.druid_base.proofs.MemberLemmas.{Contains-cons}
 use Rattle.druid_time.specs.Extent.{Extent, Has, common}
-use Rattle.druid_segid.specs.Group.{Group, Outranks}
+use Rattle.druid_segment_id.specs.Group.{Group, Outranks}
 use Rattle.druid_timeline.specs.Edited.{IsOverlaid, IsWithin}
 use Rattle.druid_timeline.specs.Pieces.{shown_at, AreRuns, Shows}
 use Rattle.druid_timeline.proofs.LookupLemmas.{cut_runs, cut_here, later_within}

@@ -16,11 +16,11 @@ use Rattle.std.proofs.lemmas.Cmp.{then_total, on_total, nat_cmp_total, nat_list_
 use Rattle.std.proofs.lemmas.Map.Keys.{sorted_from_all_adjacent}
 use Rattle.std.proofs.lemmas.Map.Made.{AllPairs-from_IsDistinct}
 use Rattle.druid_base.proofs.OrderLemmas.{reverse-Greater}
-use Rattle.druid_segid.specs.Group.{Group, same_group, rank_cmp, Outranks}
-use Rattle.druid_segid.proofs.GroupLemmas.{group_same, rank_cmp-total, Outranks-cases}
-use Rattle.druid_segid.proofs.OrderLemmas.{both-Equal, nat_cmp-Equal, slice_cmp-Equal}
+use Rattle.druid_segment_id.specs.Group.{Group, same_group, rank_cmp, Outranks}
+use Rattle.druid_segment_id.proofs.GroupLemmas.{group_same, rank_cmp-total, Outranks-cases}
+use Rattle.druid_segment_id.proofs.OrderLemmas.{both-Equal, nat_cmp-Equal, slice_cmp-Equal}
 use Rattle.druid_timeline.specs.Overshadowed.{place_cmp}
-use Rattle.druid_chunks.proofs.ChunkLemmas.{same_group-exact, same_group-same}
+use Rattle.druid_timeline_chunks.proofs.ChunkLemmas.{same_group-exact, same_group-same}
 
 pub place_cmp-total : IsTotalOrder place_cmp
 place_cmp-total =

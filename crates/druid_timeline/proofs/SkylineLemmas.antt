@@ -10,8 +10,8 @@ use Rattle.std.proofs.lemmas.List.Sorted.{Contains-permutation, IsNonDecreasingB
 use Rattle.druid_base.proofs.MemberLemmas.{Contains-nil, Contains-cons, Contains-later, Contains-map, Contains-map_back}
 use Rattle.druid_base.proofs.OrderLemmas.{is_le-from}
 use Rattle.druid_time.proofs.ExtentLemmas.{at_most}
-use Rattle.druid_segid.specs.Group.{Group, Outranks}
-use Rattle.druid_segid.proofs.GroupLemmas.{Outranks-cases, Outranks-onward, Outranks-one_way}
+use Rattle.druid_segment_id.specs.Group.{Group, Outranks}
+use Rattle.druid_segment_id.proofs.GroupLemmas.{Outranks-cases, Outranks-onward, Outranks-one_way}
 use Rattle.druid_timeline.specs.Candidates.{IsCandidateOf, IsBestOf}
 use Rattle.druid_timeline.specs.Skyline.{StartInOrder, EndLater, StandsBehind, IsSkyline, IsCovered, IsTop, IsSkylineOf}
 use Rattle.druid_timeline.proofs.SweepLemmas.{SeenBetween, drop_next}

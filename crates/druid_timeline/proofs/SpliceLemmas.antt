@@ -5,7 +5,7 @@ use Rattle.std.proofs.lemmas.Bool.{cases_lt}
 use Rattle.std.proofs.lemmas.List.{map-append, take-append-drop, take_more, drop_all}
 use Rattle.std.proofs.lemmas.List.Elements.{Contains-push}
 use Rattle.druid_time.specs.Extent.{Extent, Has}
-use Rattle.druid_segid.specs.Group.{Group}
+use Rattle.druid_segment_id.specs.Group.{Group}
 use Rattle.druid_base.proofs.MemberLemmas.{Contains-nil, Contains-cons, Contains-later}
 use Rattle.druid_timeline.specs.Edited.{AreRunsEdited, spliced}
 use Rattle.druid_timeline.specs.Pieces.{Shown, shown_at, AreRuns, Shows}

@@ -7,7 +7,7 @@ use Rattle.druid_timeline.proofs.RunsLemmas.{AreRuns-first, AreRuns-rest, Shows-
 use Rattle.std.proofs.lemmas.Bool.{cases_lt, cases_order}
 use Rattle.std.proofs.lemmas.List.{map-append}
 use Rattle.druid_time.specs.Extent.{Extent, Has}
-use Rattle.druid_segid.specs.Group.{Group}
+use Rattle.druid_segment_id.specs.Group.{Group}
 use Rattle.druid_base.proofs.MemberLemmas.{Contains-nil, Contains-cons}
 use Rattle.druid_timeline.specs.Pieces.{Shown, shown_at, IsStretch, AreRuns, Shows}
 use Rattle.druid_timeline.specs.Stretches.{EndBy}

@@ -6,11 +6,11 @@ use Rattle.std.specs.List.{Contains, IsDistinct}
 use Rattle.std.proofs.lemmas.Bool.{cases_lt, false≢true}
 use Rattle.std.proofs.lemmas.Map.Made.{length-le_from_is_member, is_member-Decides}
 use Rattle.druid_time.specs.Extent.{Extent, Has}
-use Rattle.druid_segid.specs.Group.{Group, Outranks, same_group}
-use Rattle.druid_segid.proofs.GroupLemmas.{Outranks-cases, Outranks-onward, Outranks-one_way}
-use Rattle.druid_members.specs.Members.{IsComplete}
-use Rattle.druid_chunks.specs.Chunks.{Chunk, AreChunks, IsOverlapOf}
-use Rattle.druid_chunks.proofs.ChunkLemmas.{cases_group, same_group-equiv, same_group-exact, same_group-same}
+use Rattle.druid_segment_id.specs.Group.{Group, Outranks, same_group}
+use Rattle.druid_segment_id.proofs.GroupLemmas.{Outranks-cases, Outranks-onward, Outranks-one_way}
+use Rattle.druid_timeline_members.specs.Members.{IsComplete}
+use Rattle.druid_timeline_chunks.specs.Chunks.{Chunk, AreChunks, IsOverlapOf}
+use Rattle.druid_timeline_chunks.proofs.ChunkLemmas.{cases_group, same_group-equiv, same_group-exact, same_group-same}
 use Rattle.druid_timeline.specs.Candidates.{IsCandidateOf, IsBestOf}
 use Rattle.druid_timeline.specs.Chunks.{held_in}
 use Rattle.druid_timeline.specs.Edited.{AreAlikeBut, AreRunsEdited, ArePiecesThen, HasOthers, IsOverlaid, IsWithin}

@@ -1,6 +1,6 @@
 -- A log of exchanges that takes the runs back.
 use Rattle.std.proofs.Common.{◌≡◌, ◌≤◌, ℕ, List, [], ◌∷◌, map, reverse, sym, ◌∙◌, subst, arith}
-use Rattle.druid_chunks.specs.Chunks.{Chunk, AreChunks}
+use Rattle.druid_timeline_chunks.specs.Chunks.{Chunk, AreChunks}
 use Rattle.druid_timeline.specs.declared.edit.Edit.{Edit}
 use Rattle.druid_timeline.specs.Chunks.{held_in}
 use Rattle.druid_timeline.specs.Exchanges.{CanUndo, HaveMembersOf, TakesBack, exchanged}

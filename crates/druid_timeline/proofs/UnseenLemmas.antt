@@ -8,11 +8,11 @@ use Rattle.std.proofs.lemmas.List.{take_more}
 use Rattle.std.proofs.lemmas.List.Elements.{Contains-push, Contains-push_cases, Contains-append_left}
 use Rattle.std.proofs.lemmas.List.Sorted.{IsPermutation-to_front, IsPermutation-sym}
 use Rattle.std.proofs.lemmas.Map.Keys.{IsDistinct-head, IsDistinct-tail, IsDistinct-cons, IsDistinct-from_apart, IsDistinct-IsPermutation}
-use Rattle.druid_segid.specs.Group.{Group, same_group}
-use Rattle.druid_members.specs.Members.{IsComplete}
+use Rattle.druid_segment_id.specs.Group.{Group, same_group}
+use Rattle.druid_timeline_members.specs.Members.{IsComplete}
 use Rattle.druid_base.proofs.MemberLemmas.{Contains-nil, Contains-cons, Contains-later}
-use Rattle.druid_chunks.specs.Chunks.{Chunk, AreChunks, IsCompleteOf}
-use Rattle.druid_chunks.proofs.ChunkLemmas.{same_group-exact, same_group-same, same_group-equiv}
+use Rattle.druid_timeline_chunks.specs.Chunks.{Chunk, AreChunks, IsCompleteOf}
+use Rattle.druid_timeline_chunks.proofs.ChunkLemmas.{same_group-exact, same_group-same, same_group-equiv}
 use Rattle.druid_timeline.specs.Chunks.{held_in}
 use Rattle.druid_timeline.specs.Overshadowed.{IsOvershadowed}
 use Rattle.druid_timeline.specs.Pieces.{ArePieces, shown_at}

@@ -3,11 +3,11 @@ use Rattle.std.proofs.Common.{◌≡◌, ℕ, ◌<◌, ◌≤◌, zero, suc, Lis
 use Rattle.std.specs.List.{Contains}
 use Rattle.std.proofs.lemmas.Bool.{cases_lt, cases_eq}
 use Rattle.druid_time.specs.Extent.{Extent, Has}
-use Rattle.druid_segid.specs.Group.{Group, same_group, Outranks}
-use Rattle.druid_segid.proofs.GroupLemmas.{Outranks-cases, Outranks-onward}
-use Rattle.druid_members.specs.Members.{Member, HasPartition, IsComplete, core_count}
+use Rattle.druid_segment_id.specs.Group.{Group, same_group, Outranks}
+use Rattle.druid_segment_id.proofs.GroupLemmas.{Outranks-cases, Outranks-onward}
+use Rattle.druid_timeline_members.specs.Members.{Member, HasPartition, IsComplete, core_count}
 use Rattle.druid_base.proofs.MemberLemmas.{Contains-cons, Contains-later, Contains-nil, Contains-map, Contains-map_back}
-use Rattle.druid_chunks.proofs.ChunkLemmas.{same_group-exact}
+use Rattle.druid_timeline_chunks.proofs.ChunkLemmas.{same_group-exact}
 use Rattle.druid_timeline.specs.Holding.{Held, members_of}
 use Rattle.druid_timeline.specs.Pieces.{Shown, Shows, ArePieces}
 use Rattle.druid_timeline.specs.Visible.{IsCandidate, IsVisible, NothingVisible}

@@ -6,11 +6,11 @@ use Rattle.std.proofs.lemmas.List.{take_more}
 use Rattle.std.proofs.lemmas.List.Elements.{Contains-push_cases, All-contains}
 use Rattle.std.proofs.lemmas.Map.Made.{length-le_from_is_member, is_member-Decides}
 use Rattle.druid_time.specs.Extent.{Extent, Has}
-use Rattle.druid_segid.specs.Group.{Group, same_group}
-use Rattle.druid_members.specs.Members.{HasMember}
+use Rattle.druid_segment_id.specs.Group.{Group, same_group}
+use Rattle.druid_timeline_members.specs.Members.{HasMember}
 use Rattle.druid_base.proofs.MemberLemmas.{Contains-nil, Contains-map, Contains-map_back, Contains-flat_map, Contains-flat_map_back}
-use Rattle.druid_chunks.specs.Chunks.{Chunk, AreChunks, IsCompleteOf}
-use Rattle.druid_chunks.proofs.ChunkLemmas.{same_group-equiv, same_group-exact, same_group-same}
+use Rattle.druid_timeline_chunks.specs.Chunks.{Chunk, AreChunks, IsCompleteOf}
+use Rattle.druid_timeline_chunks.proofs.ChunkLemmas.{same_group-equiv, same_group-exact, same_group-same}
 use Rattle.druid_timeline.specs.Candidates.{IsCandidateOf, IsBestOf}
 use Rattle.druid_timeline.specs.Chunks.{held_at, held_in}
 use Rattle.druid_timeline.specs.Holding.{Held, HasComplete, AreGroupsOf}

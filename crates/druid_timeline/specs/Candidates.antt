@@ -1,7 +1,7 @@
 -- The best of some chunks at an instant: only proofs use this.
 use Rattle.std.specs.Prelude.{◌≡◌, ℕ, List, ◌⊎◌, Contains}
 use Rattle.druid_time.specs.Extent.{Has}
-use Rattle.druid_segid.specs.Group.{Group, Outranks}
+use Rattle.druid_segment_id.specs.Group.{Group, Outranks}
 
 -- one of the chunks is g, and has the instant
 abbrev pub IsCandidateOf : List Group → ℕ → Group → Type 0

@@ -1,9 +1,9 @@
 -- What is held, kept by chunk: only proofs use this.
 use Rattle.std.specs.Prelude.{List, map}
 use Rattle.std.specs.List.{flat_map}
-use Rattle.druid_segid.specs.Group.{Group}
-use Rattle.druid_members.specs.Members.{Member}
-use Rattle.druid_chunks.specs.Chunks.{Chunk}
+use Rattle.druid_segment_id.specs.Group.{Group}
+use Rattle.druid_timeline_members.specs.Members.{Member}
+use Rattle.druid_timeline_chunks.specs.Chunks.{Chunk}
 use Rattle.druid_timeline.specs.Holding.{Held}
 
 -- a member of a chunk

@@ -1,7 +1,7 @@
 -- One edit of a timeline.
 use Rattle.std.specs.Prelude.{◌≡◌, ◌≢◌, ◌≤◌, ℕ, Bool, List, take, drop, ◌+◌, ◌++◌, ◌⊎◌, ◌↔◌, Contains, IsTrue}
 use Rattle.druid_time.specs.Extent.{Extent, Has, Share}
-use Rattle.druid_segid.specs.Group.{Group, Outranks}
+use Rattle.druid_segment_id.specs.Group.{Group, Outranks}
 use Rattle.druid_timeline.specs.Holding.{Held, IsCompleteIn}
 use Rattle.druid_timeline.specs.Pieces.{Shown, AreRuns, Shows, ArePieces}
 

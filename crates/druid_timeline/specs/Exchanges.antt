@@ -1,8 +1,8 @@
 -- Exchanges of runs for those of an edit: only proofs use this.
 use Rattle.std.specs.Prelude.{◌≡◌, ◌≤◌, ◌+◌, ◌-◌, ℕ, List, [], ◌∷◌, Option, None, Some, length, map, reverse, vec_capacity}
 use Rattle.druid_time.specs.Extent.{Extent}
-use Rattle.druid_segid.specs.Group.{Group}
-use Rattle.druid_chunks.specs.Chunks.{Chunk, AreChunks, members_at}
+use Rattle.druid_segment_id.specs.Group.{Group}
+use Rattle.druid_timeline_chunks.specs.Chunks.{Chunk, AreChunks, members_at}
 use Rattle.druid_timeline.specs.declared.edit.Edit.{Edit}
 use Rattle.druid_timeline.specs.Chunks.{held_in}
 use Rattle.druid_timeline.specs.Edited.{spliced}

@@ -1,10 +1,10 @@
 -- What nodes hold of one data source.
 use Rattle.std.specs.Prelude.{◌≡◌, ℕ, true, List, map, filter, ◌⊎◌, ◌↔◌, Contains}
 use Rattle.std.specs.List.{IsDistinct}
-use Rattle.druid_segid.specs.Identifier.{Identifier}
-use Rattle.druid_segid.specs.Group.{Group, group_of, same_group}
-use Rattle.druid_shard.specs.Described.{Described}
-use Rattle.druid_members.specs.Members.{Member, member_of, IsComplete}
+use Rattle.druid_segment_id.specs.Identifier.{Identifier}
+use Rattle.druid_segment_id.specs.Group.{Group, group_of, same_group}
+use Rattle.druid_segment_descriptor.specs.Described.{Described}
+use Rattle.druid_timeline_members.specs.Members.{Member, member_of, IsComplete}
 
 -- a segment that a node holds: its chunk, and its place there. Of a descriptor only the size is left out
 pub record Held : Type 0 where

@@ -2,8 +2,8 @@
 use Rattle.std.specs.Prelude.{ℕ, List, IfSome}
 use Rattle.std.specs.HashMap as hash
 use Rattle.std.specs.HashMap.{HashMap}
-use Rattle.druid_segid.specs.Group.{Group, same_group}
-use Rattle.druid_chunks.specs.Chunks.{Chunk, members_at}
+use Rattle.druid_segment_id.specs.Group.{Group, same_group}
+use Rattle.druid_timeline_chunks.specs.Chunks.{Chunk, members_at}
 use Rattle.druid_timeline.specs.Pieces.{ArePartitions}
 
 -- what the map has of a chunk are the partitions of its members

@@ -1,10 +1,10 @@
 -- The visible pieces of a timeline.
 use Rattle.std.specs.Prelude.{◌≡◌, ◌≢◌, ℕ, ◌<◌, ◌≤◌, List, [], ◌∷◌, ◌↔◌, ◌⊎◌, Option, option_map, Contains}
 use Rattle.std.specs.List.Sorted.{IsStrictlyIncreasing}
-use Rattle.druid_members.specs.Members.{Member, HasPartition}
+use Rattle.druid_timeline_members.specs.Members.{Member, HasPartition}
 use Rattle.std.specs.List.{filter_map, flat_map}
 use Rattle.druid_time.specs.Extent.{Extent, Has, common}
-use Rattle.druid_segid.specs.Group.{Group}
+use Rattle.druid_segment_id.specs.Group.{Group}
 use Rattle.druid_timeline.specs.Holding.{Held}
 use Rattle.druid_timeline.specs.Visible.{IsVisible}
 

@@ -1,7 +1,7 @@
 -- Of the chunks that a sweep has passed, those that may be the best at an instant to come: only proofs use this.
 use Rattle.std.specs.Prelude.{◌≡◌, ℕ, ◌<◌, ◌≤◌, List, [], ◌∷◌, ◌⊎◌, Contains}
 use Rattle.std.specs.List.Sorted.{IsNonDecreasingBy}
-use Rattle.druid_segid.specs.Group.{Group, Outranks}
+use Rattle.druid_segment_id.specs.Group.{Group, Outranks}
 
 -- none starts before one that stands before it
 abbrev pub StartInOrder : List Group → Type 0

@@ -1,6 +1,6 @@
 -- What runs show up to an instant: only proofs use this.
 use Rattle.std.specs.Prelude.{ℕ, ◌<◌, List}
-use Rattle.druid_segid.specs.Group.{Group}
+use Rattle.druid_segment_id.specs.Group.{Group}
 use Rattle.druid_timeline.specs.Pieces.{Shown, Shows}
 
 -- nothing is shown at the instant or later

@@ -1,7 +1,7 @@
 -- Which chunk is visible at an instant.
 use Rattle.std.specs.Prelude.{◌≡◌, ℕ, List, ◌⊎◌}
 use Rattle.druid_time.specs.Extent.{Has}
-use Rattle.druid_segid.specs.Group.{Group, Outranks}
+use Rattle.druid_segment_id.specs.Group.{Group, Outranks}
 use Rattle.druid_timeline.specs.Holding.{Held, IsCompleteIn}
 
 -- a complete chunk whose interval has the instant

@@ -1,7 +1,7 @@
 //! What an edit replaces of the runs of a timeline, and by what.
 ghost use Rattle.std.specs.Prelude.{◌≡◌, ◌<◌, ◌≤◌, ◌+◌, ◌-◌, ◌*◌, ◌++◌, ◌↔◌, ◌⊎◌, ℕ, [], ◌∷◌, length, map, take, drop, reverse, vec_capacity, IfOk, OnOk, Contains};
 ghost use Rattle.druid_time.specs.Extent.{Extent, Has};
-ghost use Rattle.druid_segid.specs.Group.{Group};
+ghost use Rattle.druid_segment_id.specs.Group.{Group};
 ghost use Rattle.druid_timeline.specs.Candidates.{IsBestOf};
 ghost use Rattle.druid_timeline.specs.Pieces.{AreRuns, Shows, cut, shown_at};
 ghost use Rattle.druid_timeline.specs.Skyline.{StartInOrder};
@@ -11,7 +11,7 @@ ghost use Rattle.druid_timeline.specs.Exchanges.{CanExchange, ExchangesBack, exc
 
 use crate::overlay::add_overlaid;
 use crate::sweep::{add_best, push_run};
-use druid_segid::{GroupKey, Meter};
+use druid_segment_id::{GroupKey, Meter};
 use druid_time::{Instant, Interval};
 use std::alloc::{AllocError, Global};
 

@@ -1,14 +1,14 @@
 //! What is held of a source while much of it changes: what is visible is made once, after all
 //! edits.
 ghost use Rattle.std.specs.Prelude.{◌≡◌, ◌≤◌, ◌+◌, ◌*◌, ◌↔◌, List, [], length, IsTrue, IfOk, OnOk, OnErr};
-ghost use Rattle.druid_segid.specs.Group.{Group};
+ghost use Rattle.druid_segment_id.specs.Group.{Group};
 ghost use Rattle.druid_timeline.specs.Holding.{held_of, HoldsNothing, HasComplete, IsHeld, IsServed, AddsHeld, RemovesHeld, RemovesOneHeld, SameHeld};
 
 use crate::Timeline;
 use crate::whole::runs_of;
-use druid_chunks::Chunks;
-use druid_segid::{Meter, Name, SegmentId};
-use druid_shard::{Descriptor, NodeNo};
+use druid_segment_descriptor::{Descriptor, NodeNo};
+use druid_segment_id::{Meter, Name, SegmentId};
+use druid_timeline_chunks::Chunks;
 use std::alloc::{AllocError, Global};
 use std::marker::Model;
 

@@ -1,9 +1,9 @@
 //! Facts that hold of all holdings.
 ghost use Rattle.std.specs.Prelude.{◌≡◌, ℕ, List, Contains};
 ghost use Rattle.druid_time.specs.Extent.{Extent, AnyHas, AreParts};
-ghost use Rattle.druid_segid.specs.Group.{Group};
-ghost use Rattle.druid_segid.specs.Identifier.{Identifier};
-ghost use Rattle.druid_shard.specs.Described.{Described};
+ghost use Rattle.druid_segment_id.specs.Group.{Group};
+ghost use Rattle.druid_segment_id.specs.Identifier.{Identifier};
+ghost use Rattle.druid_segment_descriptor.specs.Described.{Described};
 ghost use Rattle.druid_timeline.specs.Holding.{Held, held_of, IsHeld, OnePerPlace, AddsHeld, RemovesHeld, SameHeld};
 ghost use Rattle.druid_timeline.specs.Overshadowed.{IsOvershadowed};
 ghost use Rattle.druid_timeline.specs.Visible.{IsVisible};

@@ -1,16 +1,16 @@
 //! What runs show at an instant, and in the parts of a set.
 ghost use Rattle.std.specs.Prelude.{◌≡◌, ◌<◌, ◌≤◌, ◌++◌, ℕ, All, length, map, take, drop, IfOk, OnOk, MatchOption, Contains};
 ghost use Rattle.std.specs.List.{filter_map};
-ghost use Rattle.druid_chunks.specs.Chunks.{AreChunks, members_at};
+ghost use Rattle.druid_timeline_chunks.specs.Chunks.{AreChunks, members_at};
 ghost use Rattle.druid_time.specs.Extent.{Extent};
-ghost use Rattle.druid_segid.specs.Group.{Group};
+ghost use Rattle.druid_segment_id.specs.Group.{Group};
 ghost use Rattle.druid_timeline.specs.Pieces.{AreRuns, ArePartitions, Shows, cut, cut_piece, shown_at, shown_of};
 ghost use Rattle.druid_timeline.specs.Known.{AreKnown};
 
 use crate::{Partitions, Piece};
-use druid_chunks::Chunks;
-use druid_segid::GroupKey;
+use druid_segment_id::GroupKey;
 use druid_time::{Instant, Interval};
+use druid_timeline_chunks::Chunks;
 use std::alloc::{AllocError, Global};
 use std::collections::HashMap;
 

@@ -1,7 +1,7 @@
 //! What is visible where a chunk comes over runs, and where runs show a chunk.
 ghost use Rattle.std.specs.Prelude.{◌≡◌, ◌<◌, ◌≤◌, ◌+◌, ◌↔◌, ◌⊎◌, ℕ, [], ◌∷◌, length, map, OnOk, MatchOption};
 ghost use Rattle.druid_time.specs.Extent.{Extent, Has};
-ghost use Rattle.druid_segid.specs.Group.{Group, Outranks};
+ghost use Rattle.druid_segment_id.specs.Group.{Group, Outranks};
 ghost use Rattle.druid_timeline.specs.Edited.{IsOverlaid, IsWithin};
 ghost use Rattle.druid_timeline.specs.Pieces.{AreRuns, Shows, cut, shown_at};
 ghost use Rattle.druid_timeline.specs.Stretches.{EndBy};
@@ -9,7 +9,7 @@ ghost use Rattle.druid_timeline.specs.Stretches.{EndBy};
 use crate::edit::{first_after, first_to};
 use crate::skyline::beats;
 use crate::sweep::{push_between, push_run};
-use druid_segid::{GroupKey, Meter};
+use druid_segment_id::{GroupKey, Meter};
 use druid_time::Interval;
 use std::alloc::AllocError;
 

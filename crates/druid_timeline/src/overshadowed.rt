@@ -5,14 +5,14 @@ ghost use Rattle.std.specs.Prelude.{◌≡◌, ◌↔◌, ◌≤◌, ℕ, List, 
 ghost use Rattle.std.specs.HashSet as set;
 ghost use Rattle.std.specs.List.{IsDistinct, insert};
 ghost use Rattle.std.specs.List.Sorted.{IsPermutation, IsSorted, IsStrictlySortedBy};
-ghost use Rattle.druid_chunks.specs.Chunks.{AreChunks, IsCompleteOf};
+ghost use Rattle.druid_timeline_chunks.specs.Chunks.{AreChunks, IsCompleteOf};
 ghost use Rattle.druid_time.specs.Extent.{Extent};
-ghost use Rattle.druid_segid.specs.Group.{Group, same_group};
+ghost use Rattle.druid_segment_id.specs.Group.{Group, same_group};
 ghost use Rattle.druid_timeline.specs.Overshadowed.{interval_cmp, place_cmp};
 
-use druid_chunks::Chunks;
-use druid_segid::{GroupKey, Meter};
+use druid_segment_id::{GroupKey, Meter};
 use druid_time::Interval;
+use druid_timeline_chunks::Chunks;
 use std::alloc::{AllocError, Global};
 use std::cmp::Ordering;
 use std::collections::HashSet;

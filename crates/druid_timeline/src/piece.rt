@@ -1,7 +1,7 @@
 //! Visible pieces. Those of one chunk in one lookup share the list of its partitions.
 ghost use Rattle.std.specs.Prelude.{◌≡◌, IfOk};
 
-use druid_segid::GroupKey;
+use druid_segment_id::GroupKey;
 use druid_time::Interval;
 use std::alloc::{AllocError, Global};
 use std::marker::Model;

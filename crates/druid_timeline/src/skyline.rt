@@ -3,10 +3,10 @@
 //! ends are searched by halving.
 ghost use Rattle.std.specs.Prelude.{◌≡◌, ◌≤◌, ◌<◌, ◌+◌, ◌-◌, ◌*◌, ◌++◌, ◌↔◌, ◌⊎◌, List, [], ◌∷◌, length, map, take, drop, IsTrue, IfOk, OnOk, MatchOption, option_copied, Contains};
 ghost use Rattle.std.specs.List.{AllWithin};
-ghost use Rattle.druid_segid.specs.Group.{Group, Outranks};
+ghost use Rattle.druid_segment_id.specs.Group.{Group, Outranks};
 ghost use Rattle.druid_timeline.specs.Skyline.{StartInOrder, StartLater, EndLater, IsSkyline, IsCovered, IsTop, IsSkylineOf};
 
-use druid_segid::{GroupKey, Meter};
+use druid_segment_id::{GroupKey, Meter};
 use druid_time::Instant;
 use std::alloc::AllocError;
 

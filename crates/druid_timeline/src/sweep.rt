@@ -2,14 +2,14 @@
 //! changes.
 ghost use Rattle.std.specs.Prelude.{◌≡◌, ◌<◌, ◌≤◌, ◌+◌, ◌*◌, ◌↔◌, ◌⊎◌, ℕ, List, min, drop, length, map, IsTrue, OnOk, MatchOption, option_copied, Contains};
 ghost use Rattle.druid_time.specs.Extent.{Has, IsExtent};
-ghost use Rattle.druid_segid.specs.Group.{Group};
+ghost use Rattle.druid_segment_id.specs.Group.{Group};
 ghost use Rattle.druid_timeline.specs.Candidates.{IsBestOf};
 ghost use Rattle.druid_timeline.specs.Pieces.{AreRuns, Shows, shown_at};
 ghost use Rattle.druid_timeline.specs.Skyline.{StartInOrder, StartLater};
 ghost use Rattle.druid_timeline.specs.Stretches.{EndBy};
 
 use crate::skyline::{advance, best_of};
-use druid_segid::{GroupKey, Meter};
+use druid_segment_id::{GroupKey, Meter};
 use druid_time::{Instant, Interval};
 use std::alloc::{AllocError, Global};
 

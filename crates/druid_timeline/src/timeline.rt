@@ -5,7 +5,7 @@
 ghost use Rattle.std.specs.Prelude.{◌≡◌, ◌≤◌, ◌+◌, ◌*◌, ◌↔◌, ◌⊎◌, ℕ, List, [], ◌∷◌, All, Contains, IsTrue, IfOk, IfErr, OnOk, OnErr, IsErrOf, length, map, MatchOption};
 ghost use Rattle.std.specs.List.Sorted.{IsStrictlyIncreasing, IsStrictlySortedBy};
 ghost use Rattle.druid_time.specs.Extent.{AnyHas};
-ghost use Rattle.druid_segid.specs.Group.{Group, group_of};
+ghost use Rattle.druid_segment_id.specs.Group.{Group, group_of};
 ghost use Rattle.druid_timeline.specs.Edited.{HasOthers};
 ghost use Rattle.druid_timeline.specs.Holding.{held_of, members_of, AreGroupsOf, HoldsNothing, IsCompleteIn, IsHeld, IsServed, ServesRows, AddsHeld, RemovesHeld, RemovesOneHeld, SameHeld};
 ghost use Rattle.druid_timeline.specs.Overshadowed.{IsOvershadowed, place_cmp};
@@ -16,10 +16,10 @@ use crate::lookup::{chunk_at, pieces_in};
 use crate::overshadowed::overshadowed_in;
 use crate::turn::{add_segment, remove_segment};
 use crate::{Piece, TimelineFault};
-use druid_chunks::Chunks;
-use druid_segid::{GroupKey, Meter, Name, SegmentId};
-use druid_shard::{Descriptor, NodeNo};
+use druid_segment_descriptor::{Descriptor, NodeNo};
+use druid_segment_id::{GroupKey, Meter, Name, SegmentId};
 use druid_time::{Instant, Interval, IntervalSet};
+use druid_timeline_chunks::Chunks;
 use std::alloc::{AllocError, Global};
 use std::marker::Model;
 

@@ -1,7 +1,7 @@
 //! Edits of a timeline that can be taken back all at once.
 ghost use Rattle.std.specs.Prelude.{◌≡◌, ◌≤◌, ◌+◌, ◌*◌, ◌↔◌, ◌⊎◌, List, [], ◌∷◌, IsTrue, length, IfErr, OnOk, OnErr, IsErrOf};
-ghost use Rattle.druid_segid.specs.Group.{Group, group_of};
-ghost use Rattle.druid_chunks.specs.Chunks.{members_at};
+ghost use Rattle.druid_segment_id.specs.Group.{Group, group_of};
+ghost use Rattle.druid_timeline_chunks.specs.Chunks.{members_at};
 ghost use Rattle.druid_timeline.specs.Edited.{HasOthers};
 ghost use Rattle.druid_timeline.specs.Holding.{held_of, members_of, IsCompleteIn, IsHeld, IsServed, AddsHeld, RemovesHeld, RemovesOneHeld, SameHeld};
 ghost use Rattle.druid_timeline.specs.Pieces.{Shown, ArePieces, cut};
@@ -9,8 +9,8 @@ ghost use Rattle.druid_timeline.specs.Pieces.{Shown, ArePieces, cut};
 use crate::edit::Edit;
 use crate::undo::{add_logged, remove_logged, take_back};
 use crate::{Timeline, TimelineFault};
-use druid_segid::{GroupKey, Meter, Name, SegmentId};
-use druid_shard::{Descriptor, NodeNo};
+use druid_segment_descriptor::{Descriptor, NodeNo};
+use druid_segment_id::{GroupKey, Meter, Name, SegmentId};
 use druid_time::Interval;
 use std::alloc::{AllocError, Global};
 use std::marker::Model;
@@ -22,7 +22,7 @@ use std::marker::Model;
 pub struct Transaction {
     alloc: Global,
     source: Name,
-    chunks: druid_chunks::Transaction,
+    chunks: druid_timeline_chunks::Transaction,
     runs: Vec<(Interval, GroupKey)>,
     // What takes the runs back, the latest last.
     log: Vec<Edit>,
@@ -60,7 +60,7 @@ impl Transaction {
         Transaction {
             alloc,
             source,
-            chunks: druid_chunks::Transaction::begin(chunks),
+            chunks: druid_timeline_chunks::Transaction::begin(chunks),
             runs,
             log: Vec::new(alloc),
         }

@@ -1,7 +1,7 @@
 //! What the runs become where the completeness of one chunk turns.
 ghost use Rattle.std.specs.Prelude.{◌≡◌, ◌<◌, ◌≤◌, ◌+◌, ◌*◌, ◌↔◌, ℕ, List, [], ◌∷◌, Option, false, length, map, vec_capacity, IsTrue, IfOk, IfSome, OnOk, OnErr, Contains};
-ghost use Rattle.druid_segid.specs.Group.{Group, group_of};
-ghost use Rattle.druid_chunks.specs.Chunks.{AreChunks, IsOverlapOf};
+ghost use Rattle.druid_segment_id.specs.Group.{Group, group_of};
+ghost use Rattle.druid_timeline_chunks.specs.Chunks.{AreChunks, IsOverlapOf};
 ghost use Rattle.druid_timeline.specs.Chunks.{held_in};
 ghost use Rattle.druid_timeline.specs.Edited.{ArePiecesThen, HasOthers, IsWithin};
 ghost use Rattle.druid_timeline.specs.Exchanges.{CanExchange, settled};
@@ -11,10 +11,10 @@ ghost use Rattle.druid_timeline.specs.Skyline.{StartInOrder};
 
 use crate::edit::{Edit, edit_overlaid, edit_swept, exchange};
 use crate::overlay::hull_of;
-use druid_chunks::Chunks;
-use druid_segid::{GroupKey, Meter, SegmentId};
-use druid_shard::{Descriptor, NodeNo};
+use druid_segment_descriptor::{Descriptor, NodeNo};
+use druid_segment_id::{GroupKey, Meter, SegmentId};
 use druid_time::Interval;
+use druid_timeline_chunks::Chunks;
 use std::alloc::{AllocError, Global};
 
 // The other complete chunks that overlap a part of a segment's interval, in the order of their starts.

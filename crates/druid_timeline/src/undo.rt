@@ -1,7 +1,7 @@
 //! Edits of the chunks and the runs of a timeline that are logged, so that they can be taken back.
 ghost use Rattle.std.specs.Prelude.{◌≡◌, ◌<◌, ◌≤◌, ◌+◌, ◌*◌, ◌↔◌, List, [], ◌∷◌, length, map, reverse, vec_len, vec_capacity, IfSome, OnOk, OnErr};
-ghost use Rattle.druid_segid.specs.Group.{Group, group_of};
-ghost use Rattle.druid_chunks.specs.Chunks.{Chunk};
+ghost use Rattle.druid_segment_id.specs.Group.{Group, group_of};
+ghost use Rattle.druid_timeline_chunks.specs.Chunks.{Chunk};
 ghost use Rattle.druid_timeline.specs.Chunks.{held_in};
 ghost use Rattle.druid_timeline.specs.Edited.{HasOthers};
 ghost use Rattle.druid_timeline.specs.Exchanges.{CanExchange, CanUndo, HaveMembersOf, TakesBack, settled, undone};
@@ -10,10 +10,10 @@ ghost use Rattle.druid_timeline.specs.Pieces.{Shown, ArePieces, cut, shown_at};
 
 use crate::edit::{Edit, exchange};
 use crate::turn::prepare_edit;
-use druid_chunks::Transaction;
-use druid_segid::{GroupKey, Meter, SegmentId};
-use druid_shard::{Descriptor, NodeNo};
+use druid_segment_descriptor::{Descriptor, NodeNo};
+use druid_segment_id::{GroupKey, Meter, SegmentId};
 use druid_time::Interval;
+use druid_timeline_chunks::Transaction;
 use std::alloc::{AllocError, Global};
 
 // Room in a log for an edit, if there is one.

@@ -2,8 +2,8 @@
 ghost use Rattle.std.specs.Prelude.{◌≡◌, ◌≤◌, ◌+◌, ◌*◌, ◌↔◌, ℕ, List, length, map, IfOk, Contains, MatchOption};
 ghost use Rattle.std.specs.List.{IsDistinct};
 ghost use Rattle.druid_time.specs.Extent.{Has};
-ghost use Rattle.druid_segid.specs.Group.{Group, same_group};
-ghost use Rattle.druid_chunks.specs.Chunks.{AreChunks, IsCompleteOf};
+ghost use Rattle.druid_segment_id.specs.Group.{Group, same_group};
+ghost use Rattle.druid_timeline_chunks.specs.Chunks.{AreChunks, IsCompleteOf};
 ghost use Rattle.druid_timeline.specs.Chunks.{held_in};
 ghost use Rattle.druid_timeline.specs.Holding.{HasComplete};
 ghost use Rattle.druid_timeline.specs.Pieces.{ArePieces, shown_at};
@@ -11,9 +11,9 @@ ghost use Rattle.druid_timeline.specs.Skyline.{StartInOrder};
 
 use crate::overlay::widened;
 use crate::sweep::add_best;
-use druid_chunks::Chunks;
-use druid_segid::{GroupKey, Meter};
+use druid_segment_id::{GroupKey, Meter};
 use druid_time::Interval;
+use druid_timeline_chunks::Chunks;
 use std::alloc::{AllocError, Global};
 
 // The complete chunks, each once.

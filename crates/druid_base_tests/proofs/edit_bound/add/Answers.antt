@@ -1,4 +1,4 @@
-use Rattle.druid_segid.specs.Group.{group_of}
+use Rattle.druid_segment_id.specs.Group.{group_of}
 use Rattle.druid_timeline.specs.Holding.{held_of}
 use Rattle.druid_base_tests.proofs.OthersLemmas.{AreAmong-added, HasOthers-among, of_ok}
 use Rattle.druid_base_tests.proofs.edit_bound.add.Goals as goal

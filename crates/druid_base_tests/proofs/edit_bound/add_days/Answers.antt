@@ -1,6 +1,6 @@
 use Rattle.std.proofs.Common.{◌≡◌, ◌∙◌, ◌≤◌, ap, rules, arith}
 use Rattle.druid_time.specs.Extent.{Extent}
-use Rattle.druid_segid.specs.Group.{Group, group_of}
+use Rattle.druid_segment_id.specs.Group.{Group, group_of}
 use Rattle.druid_base_tests.proofs.OthersLemmas.{IsAmong-after}
 use Rattle.druid_base_tests.proofs.edit_bound.add_days.Goals as goal
 

@@ -1,5 +1,5 @@
 use Rattle.std.proofs.Common.{◌≤◌, List}
-use Rattle.druid_segid.specs.Group.{Group}
+use Rattle.druid_segment_id.specs.Group.{Group}
 use Rattle.druid_base_tests.specs.Others.{AreAmong}
 use Rattle.druid_base_tests.proofs.edit_bound.add_days.Given as goal
 

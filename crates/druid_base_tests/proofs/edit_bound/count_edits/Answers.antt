@@ -1,7 +1,7 @@
 use Rattle.std.proofs.Common.{◌≡◌, ◌∙◌, ◌∷◌, [], ap, refl, sym, subst, arith}
 use Rattle.druid_time.specs.Extent.{Extent}
-use Rattle.druid_segid.specs.Group.{Group, group_of}
-use Rattle.druid_segid.specs.Identifier.{Identifier}
+use Rattle.druid_segment_id.specs.Group.{Group, group_of}
+use Rattle.druid_segment_id.specs.Identifier.{Identifier}
 use Rattle.druid_timeline.specs.Holding.{Serving}
 use Rattle.druid_base_tests.specs.Others.{AreAmong}
 use Rattle.druid_base_tests.proofs.OthersLemmas.{AreAmong-nothing, IsAmong-itself}

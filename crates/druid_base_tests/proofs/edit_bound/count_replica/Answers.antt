@@ -1,6 +1,6 @@
 use Rattle.std.proofs.Common.{◌↔◌, ap, sym, subst}
-use Rattle.druid_segid.specs.Group.{group_of}
-use Rattle.druid_segid.specs.Identifier.{Identifier}
+use Rattle.druid_segment_id.specs.Group.{group_of}
+use Rattle.druid_segment_id.specs.Identifier.{Identifier}
 use Rattle.druid_timeline.specs.Holding.{Serving, IsCompleteIn}
 use Rattle.druid_base_tests.proofs.OthersLemmas.{of_ok}
 use Rattle.druid_base_tests.proofs.ReplicaLemmas.{level_second, level_back}

@@ -1,4 +1,4 @@
-use Rattle.druid_segid.specs.Group.{group_of}
+use Rattle.druid_segment_id.specs.Group.{group_of}
 use Rattle.druid_base_tests.proofs.OthersLemmas.{HasOthers-among}
 use Rattle.druid_base_tests.proofs.edit_bound.remove.Goals as goal
 

@@ -1,7 +1,7 @@
 use Rattle.std.proofs.Common.{List, length, ap, arith, refl}
 use Rattle.std.proofs.lemmas.List.{length-map}
 use Rattle.druid_inventory.specs.Entry.{Entry}
-use Rattle.druid_message.specs.Requests.{path_of}
+use Rattle.druid_http_message.specs.Requests.{path_of}
 use Rattle.druid_broker.specs.Routes.{route_of}
 use Rattle.druid_broker.proofs.ServeLemmas.{known, of_question, settled, takes_of, unread}
 use Rattle.druid_broker.proofs.responding.respond.Goals as goal

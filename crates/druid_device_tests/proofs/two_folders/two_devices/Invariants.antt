@@ -1,5 +1,5 @@
 use Rattle.std.specs.Prelude.{[]}
-use Rattle.druid_store.specs.Model.{has_after, LeavesAfter, first_calls}
+use Rattle.druid_folder_store.specs.Model.{has_after, LeavesAfter, first_calls}
 use Rattle.druid_device_tests.specs.TwoFolders.{keeping}
 use Rattle.druid_device_tests.proofs.two_folders.two_devices.Given as goal
 

@@ -1,7 +1,7 @@
 use Rattle.std.proofs.Common.{◌∙◌, length}
 use Rattle.std.proofs.lemmas.Result.{IfOk-weaker}
-use Rattle.druid_shard.specs.declared.reply.Body.TheVariants.{Page}
-use Rattle.druid_pages.specs.Pages.{page_at, pages_in}
+use Rattle.druid_segment_descriptor.specs.declared.reply.Body.TheVariants.{Page}
+use Rattle.druid_sync_pages.specs.Pages.{page_at, pages_in}
 use Rattle.druid_inventory.proofs.answer.page_of.Goals as goal
 
 pub returns : goal.returns

@@ -1,7 +1,7 @@
 use Rattle.std.proofs.Common.{◌≡◌, List, Some, take, subst, ◌∙◌}
 use Rattle.std.specs.Prelude.{◌↔◌, Contains}
-use Rattle.druid_shard.specs.Described.{Described}
-use Rattle.druid_shard.specs.Replay.{replay_from}
+use Rattle.druid_segment_descriptor.specs.Described.{Described}
+use Rattle.druid_segment_descriptor.specs.Replay.{replay_from}
 use Rattle.druid_inventory.specs.Merged.{NoneIs}
 use Rattle.druid_inventory.proofs.MergeLemmas.{left_apart, merged}
 use Rattle.druid_inventory.proofs.changes.advance_set.Goals as goal

@@ -3,7 +3,7 @@ use Rattle.std.specs.Arc.{arc_value}
 use Rattle.std.specs.List.{slice_get}
 use Rattle.std.specs.Ordering.{is_lt}
 use Rattle.std.proofs.lemmas.Result.{on_ok_weaker}
-use Rattle.druid_shard.specs.Mark.{mark_cmp}
+use Rattle.druid_segment_descriptor.specs.Mark.{mark_cmp}
 use Rattle.druid_inventory.specs.Entry.{Entry}
 use Rattle.druid_inventory.proofs.JoinLemmas.{not_older, beyond}
 use Rattle.druid_inventory.proofs.join.catch_up.Goals as goal

@@ -1,6 +1,6 @@
 use Rattle.std.proofs.Common.{◌≡◌, ◌+◌, take, arith, ap, sym, subst, ◌∙◌}
-use Rattle.druid_segid.specs.Identifier.{Identifier}
-use Rattle.druid_shard.specs.Described.{Described}
+use Rattle.druid_segment_id.specs.Identifier.{Identifier}
+use Rattle.druid_segment_descriptor.specs.Described.{Described}
 use Rattle.druid_inventory.specs.Judged.{segment_of, IsFound}
 use Rattle.druid_inventory.proofs.LastLemmas.{LastTo-more}
 use Rattle.druid_inventory.proofs.ReplayedLemmas.{JudgedTo, judged_load, judged_drop}

@@ -1,5 +1,5 @@
 use Rattle.std.proofs.Common.{◌≡◌, ◌≤◌, length, take}
-use Rattle.druid_shard.specs.Reply.{max_changes}
+use Rattle.druid_segment_descriptor.specs.Reply.{max_changes}
 use Rattle.druid_inventory.proofs.LastLemmas.{LastTo}
 use Rattle.druid_inventory.proofs.ReplayedLemmas.{JudgedTo}
 use Rattle.druid_inventory.proofs.judge.judge_changes.Given as goal

@@ -1,8 +1,8 @@
 use Rattle.std.proofs.Common.{◌≡◌, ◌-◌, ◌<◌, ◌≤◌, List, Some, length, take, drop, arith, refl, sym, ap, subst, ◌∙◌}
 use Rattle.std.proofs.lemmas.List.{length-take, length-drop}
-use Rattle.druid_shard.specs.Described.{Described}
-use Rattle.druid_shard.specs.Mark.{Point}
-use Rattle.druid_shard.specs.Replay.{replay_from}
+use Rattle.druid_segment_descriptor.specs.Described.{Described}
+use Rattle.druid_segment_descriptor.specs.Mark.{Point}
+use Rattle.druid_segment_descriptor.specs.Replay.{replay_from}
 use Rattle.druid_inventory.proofs.PlanLemmas.{replayed_delta}
 use Rattle.druid_inventory.proofs.StepLemmas.{goes_on, tail_made}
 use Rattle.druid_inventory.proofs.judge.judge_delta.Goals as goal

@@ -1,5 +1,5 @@
 use Rattle.std.proofs.Common.{◌≡◌, ℕ, ◌<◌, get_or}
-use Rattle.druid_shard.specs.Described.{Described}
+use Rattle.druid_segment_descriptor.specs.Described.{Described}
 use Rattle.druid_inventory.proofs.known.are_same.Given as goal
 
 abbrev pub invariant-loop-i : goal.invariant-loop-i

@@ -1,6 +1,6 @@
 use Rattle.std.proofs.Common.{◌≡◌, ◌+◌, ◌++◌, ℕ, List, [], ◌∷◌, length, sym, ap, subst, ◌∙◌, arith}
 use Rattle.std.specs.Prelude.{◌↔◌, Contains}
-use Rattle.druid_shard.specs.Described.{Described}
+use Rattle.druid_segment_descriptor.specs.Described.{Described}
 use Rattle.druid_inventory.proofs.LastLemmas.{each_within}
 use Rattle.druid_inventory.proofs.MergeLemmas.{IsLoadedTo, LoadedTo, loaded_more, loaded_kept}
 use Rattle.druid_inventory.proofs.merge.loads_of.Goals as goal

@@ -1,5 +1,5 @@
 use Rattle.std.proofs.Common.{List}
-use Rattle.druid_shard.specs.Described.{Described}
+use Rattle.druid_segment_descriptor.specs.Described.{Described}
 use Rattle.druid_inventory.specs.Judged.{AreLast}
 use Rattle.druid_inventory.proofs.MergeLemmas.{LoadedTo}
 use Rattle.druid_inventory.proofs.merge.loads_of.Given as goal

@@ -1,7 +1,7 @@
 use Rattle.std.proofs.Common.{◌≡◌, ◌-◌, List, get_or, take, subst, ◌∙◌, arith, rules}
-use Rattle.druid_segid.specs.Identifier.{Identifier}
-use Rattle.druid_shard.specs.Described.{Described}
-use Rattle.druid_shard.specs.Replay.{StandsAt, BelongsAt}
+use Rattle.druid_segment_id.specs.Identifier.{Identifier}
+use Rattle.druid_segment_descriptor.specs.Described.{Described}
+use Rattle.druid_segment_descriptor.specs.Replay.{StandsAt, BelongsAt}
 use Rattle.druid_inventory.proofs.MergeLemmas.{put_none, put_sorted, put_slice, put_read, put_apart, put_more, put_end}
 use Rattle.druid_inventory.proofs.merge.put_in.Goals as goal
 

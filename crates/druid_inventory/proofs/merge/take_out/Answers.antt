@@ -1,8 +1,8 @@
 use Rattle.std.proofs.Common.{◌≡◌, ◌+◌, ◌++◌, ◌↔◌, List, length, refl, sym, ap, subst, ◌∙◌, arith, rules}
 use Rattle.std.specs.Prelude.{vec_len, vec_capacity, Contains}
-use Rattle.druid_shard.specs.Described.{Described}
-use Rattle.druid_shard.specs.Reply.{AreSorted}
-use Rattle.druid_shard.specs.Replay.{IsSegmentSet, StandsAt, BelongsAt}
+use Rattle.druid_segment_descriptor.specs.Described.{Described}
+use Rattle.druid_segment_descriptor.specs.Reply.{AreSorted}
+use Rattle.druid_segment_descriptor.specs.Replay.{IsSegmentSet, StandsAt, BelongsAt}
 use Rattle.druid_inventory.specs.Judged.{segment_of}
 use Rattle.druid_inventory.specs.Merged.{NoneIs}
 use Rattle.druid_inventory.proofs.LastLemmas.{each_within}

@@ -1,6 +1,6 @@
 use Rattle.std.proofs.Common.{◌≡◌, List}
 use Rattle.std.specs.Prelude.{vec_len, vec_capacity}
-use Rattle.druid_shard.specs.Described.{Described}
+use Rattle.druid_segment_descriptor.specs.Described.{Described}
 use Rattle.druid_inventory.specs.Judged.{AreLast}
 use Rattle.druid_inventory.proofs.MergeLemmas.{TakenTo}
 use Rattle.druid_inventory.proofs.merge.take_out.Given as goal

@@ -1,7 +1,7 @@
 use Rattle.std.proofs.Common.{Err, length, ap, subst, arith, sym, ◌∙◌}
-use Rattle.druid_shard.specs.Reply.{IsPageOf}
-use Rattle.druid_pages.specs.Pages.{page_at}
-use Rattle.druid_pages.proofs.SetLemmas.{is_page_of}
+use Rattle.druid_segment_descriptor.specs.Reply.{IsPageOf}
+use Rattle.druid_sync_pages.specs.Pages.{page_at}
+use Rattle.druid_sync_pages.proofs.SetLemmas.{is_page_of}
 use Rattle.druid_inventory.proofs.replies.page_of_set.Goals as goal
 
 pub unreachable-requires : goal.unreachable-requires

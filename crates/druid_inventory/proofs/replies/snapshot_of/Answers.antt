@@ -1,5 +1,5 @@
 use Rattle.std.proofs.Common.{Err, ap, ◌∙◌}
-use Rattle.druid_shard.proofs.SortedLemmas.{AreSorted-own}
+use Rattle.druid_segment_descriptor.proofs.SortedLemmas.{AreSorted-own}
 use Rattle.druid_inventory.proofs.EntryLemmas.{snapshot_is}
 use Rattle.druid_inventory.proofs.replies.snapshot_of.Goals as goal
 

@@ -1,7 +1,7 @@
 use Rattle.std.proofs.Common.{ap, sym, subst}
 use Rattle.std.specs.Result.{OnOk}
 use Rattle.druid_timeline.specs.Holding.{Serving, RemovesHeld}
-use Rattle.druid_chunks.proofs.EditLemmas.{was_ok}
+use Rattle.druid_timeline_chunks.proofs.EditLemmas.{was_ok}
 use Rattle.druid_inventory.specs.Kept.{timeline_in}
 use Rattle.druid_inventory.proofs.EditLemmas.{borrowed_timeline}
 use Rattle.druid_inventory.proofs.shared_timeline.remove_from_kept.Goals as goal

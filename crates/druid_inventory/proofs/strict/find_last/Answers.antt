@@ -1,8 +1,8 @@
 use Rattle.std.proofs.Common.{◌≡◌, ◌+◌, ◌-◌, ◌/◌, get_or, ap, ◌∙◌, arith, refl}
 use Rattle.std.specs.Ordering.{nat_cmp}
 use Rattle.std.specs.Cmp.Lexicographic.{slice_cmp}
-use Rattle.druid_segid.specs.Identifier.{Identifier, identifier_text, identifier_cmp}
-use Rattle.druid_shard.specs.Described.{Described}
+use Rattle.druid_segment_id.specs.Identifier.{Identifier, identifier_text, identifier_cmp}
+use Rattle.druid_segment_descriptor.specs.Described.{Described}
 use Rattle.druid_inventory.specs.Judged.{segment_of}
 use Rattle.druid_inventory.proofs.LastLemmas.{each_within, probed, search_on, search_back, search_found}
 use Rattle.druid_inventory.proofs.strict.find_last.Goals as goal

@@ -1,6 +1,6 @@
 use Rattle.std.proofs.Common.{◌-◌, List}
-use Rattle.druid_shard.specs.Described.{Described}
-use Rattle.druid_shard.proofs.PlaceLemmas.{IsLeft}
+use Rattle.druid_segment_descriptor.specs.Described.{Described}
+use Rattle.druid_segment_descriptor.proofs.PlaceLemmas.{IsLeft}
 use Rattle.druid_inventory.specs.Judged.{AreLast}
 use Rattle.druid_inventory.proofs.strict.find_last.Given as goal
 

@@ -1,9 +1,9 @@
 use Rattle.std.proofs.Common.{◌≡◌, Option, Some, None, Bor, sym, ap, ◌∙◌, subst}
 use Rattle.std.specs.Option.{option_copied}
-use Rattle.druid_shard.specs.Described.{Described}
-use Rattle.druid_shard.specs.Replay.{is_strict}
-use Rattle.druid_shard.proofs.DescribedLemmas.{same_described-decides}
-use Rattle.druid_shard.proofs.ReplayLemmas.{replay_from-set}
+use Rattle.druid_segment_descriptor.specs.Described.{Described}
+use Rattle.druid_segment_descriptor.specs.Replay.{is_strict}
+use Rattle.druid_segment_descriptor.proofs.DescribedLemmas.{same_described-decides}
+use Rattle.druid_segment_descriptor.proofs.ReplayLemmas.{replay_from-set}
 use Rattle.druid_inventory.specs.Judged.{segment_of, IsHolderOf}
 use Rattle.druid_inventory.proofs.ReplayedLemmas.{holder_of, strict_load_by, strict_drop_some, strict_drop_none}
 use Rattle.druid_inventory.proofs.strict.is_strict_after.Goals as goal

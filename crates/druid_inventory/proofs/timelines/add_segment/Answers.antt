@@ -5,7 +5,7 @@ use Rattle.std.specs.Cmp.Lexicographic.{slice_cmp}
 use Rattle.druid_timeline.specs.Holding.{Serving, held_of, AddsHeld}
 use Rattle.std.specs.Option.{is_some}
 use Rattle.std.proofs.lemmas.Result.{on_ok_weaker}
-use Rattle.druid_segid.specs.Identifier.{Identifier}
+use Rattle.druid_segment_id.specs.Identifier.{Identifier}
 use Rattle.druid_inventory.proofs.EditLemmas.{both_ok}
 use Rattle.druid_inventory.proofs.TimelineLemmas.{AddsSegment-grown, AddsSegment-begun}
 use Rattle.druid_inventory.proofs.timelines.add_segment.Goals as goal

@@ -1,6 +1,6 @@
 use Rattle.std.proofs.Common.{ap, sym, subst, ◌∙◌}
 use Rattle.std.specs.Option.{is_some}
-use Rattle.druid_segid.specs.Identifier.{Identifier}
+use Rattle.druid_segment_id.specs.Identifier.{Identifier}
 use Rattle.druid_timeline.specs.Holding.{RemovesHeld}
 use Rattle.druid_inventory.proofs.EditLemmas.{EditsOut-edited}
 use Rattle.druid_inventory.proofs.timelines.edit_out.Goals as goal

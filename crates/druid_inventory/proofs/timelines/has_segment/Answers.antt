@@ -1,5 +1,5 @@
 use Rattle.std.proofs.Common.{◌∙◌, sym}
-use Rattle.druid_shard.proofs.DescribedLemmas.{same_described-decides}
+use Rattle.druid_segment_descriptor.proofs.DescribedLemmas.{same_described-decides}
 use Rattle.druid_inventory.proofs.ChangeLemmas.{stands_there, belongs_nowhere}
 use Rattle.druid_inventory.proofs.timelines.has_segment.Goals as goal
 

@@ -1,5 +1,5 @@
 use Rattle.std.proofs.Common.{ap, ◌∙◌}
-use Rattle.druid_segid.specs.Identifier.{Identifier}
+use Rattle.druid_segment_id.specs.Identifier.{Identifier}
 use Rattle.druid_inventory.proofs.EditLemmas.{RemovesSegment-some, RemovesSegment-none}
 use Rattle.druid_inventory.proofs.timelines.remove_segment.Goals as goal
 

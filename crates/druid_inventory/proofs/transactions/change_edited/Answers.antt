@@ -1,8 +1,8 @@
 use Rattle.std.proofs.Common.{ap, sym, ◌∙◌}
 use Rattle.std.specs.Option.{is_some}
 use Rattle.std.proofs.lemmas.Result.{on_ok_weaker}
-use Rattle.druid_segid.specs.Identifier.{Identifier}
-use Rattle.druid_shard.specs.Described.{Described}
+use Rattle.druid_segment_id.specs.Identifier.{Identifier}
+use Rattle.druid_segment_descriptor.specs.Described.{Described}
 use Rattle.druid_inventory.specs.Transactions.{Goes, Makes}
 use Rattle.druid_inventory.proofs.TransactionLemmas.{GoesOn-written}
 use Rattle.druid_inventory.proofs.transactions.change_edited.Goals as goal

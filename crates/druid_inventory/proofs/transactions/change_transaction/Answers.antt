@@ -1,7 +1,7 @@
 use Rattle.std.proofs.Common.{sym, subst}
 use Rattle.std.specs.Result.{OnOk}
-use Rattle.druid_segid.specs.Identifier.{Identifier}
-use Rattle.druid_shard.specs.declared.change.Change.{Change}
+use Rattle.druid_segment_id.specs.Identifier.{Identifier}
+use Rattle.druid_segment_descriptor.specs.declared.change.Change.{Change}
 use Rattle.druid_timeline.specs.Holding.{RemovesHeld}
 use Rattle.druid_inventory.specs.Transactions.{ChangesHeld}
 use Rattle.druid_inventory.proofs.transactions.change_transaction.Goals as goal

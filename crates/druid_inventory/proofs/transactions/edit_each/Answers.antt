@@ -2,10 +2,10 @@ use Rattle.std.proofs.Common.{◌≡◌, take, arith, ap, sym, subst, ◌∙◌}
 use Rattle.std.specs.Option.{IsSome}
 use Rattle.std.proofs.lemmas.List.{take_all}
 use Rattle.std.proofs.lemmas.Option.{same_Some}
-use Rattle.druid_segid.specs.Identifier.{Identifier}
-use Rattle.druid_shard.specs.Described.{Described}
-use Rattle.druid_shard.specs.Replay.{after, replay_from}
-use Rattle.druid_shard.proofs.ReplayLemmas.{replay_from-set}
+use Rattle.druid_segment_id.specs.Identifier.{Identifier}
+use Rattle.druid_segment_descriptor.specs.Described.{Described}
+use Rattle.druid_segment_descriptor.specs.Replay.{after, replay_from}
+use Rattle.druid_segment_descriptor.proofs.ReplayLemmas.{replay_from-set}
 use Rattle.druid_inventory.specs.Timelines.{ServesWith}
 use Rattle.druid_inventory.specs.Transactions.{edited, AreAfter}
 use Rattle.druid_inventory.proofs.ReplayedLemmas.{replayed-next}

@@ -3,7 +3,7 @@ use Rattle.std.specs.List.{flat_map}
 use Rattle.std.proofs.lemmas.Result.{IfOk-weaker}
 use Rattle.druid_partial.specs.Groups.{Group, IsResult}
 use Rattle.druid_partial.specs.Partials.{kinds_of}
-use Rattle.druid_scan.specs.Told.{told_by}
+use Rattle.druid_partial_scan.specs.Told.{told_by}
 use Rattle.druid_node.proofs.answering.partial_of_placed.Goals as goal
 
 pub returns-clause-result : goal.returns-clause-result

@@ -1,6 +1,6 @@
 use Rattle.std.proofs.Common.{◌∙◌, map, ap, arith, take_all}
 use Rattle.std.specs.List.{flat_map}
-use Rattle.druid_scan.specs.Rows.{counted_by}
+use Rattle.druid_partial_scan.specs.Rows.{counted_by}
 use Rattle.druid_node.specs.Placed.{Placed}
 use Rattle.druid_node.proofs.AnswerLemmas.{one_place}
 use Rattle.druid_node.proofs.answering.slice_at.Goals as goal

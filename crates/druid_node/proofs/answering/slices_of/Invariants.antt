@@ -1,7 +1,7 @@
 use Rattle.std.proofs.Common.{◌≡◌, ◌++◌, All, length}
 use Rattle.std.specs.List.{flat_map}
 use Rattle.druid_query.specs.Query.{Query}
-use Rattle.druid_scan.specs.Told.{told_by}
+use Rattle.druid_partial_scan.specs.Told.{told_by}
 use Rattle.druid_node.specs.Placed.{counted_at, IsWithin}
 use Rattle.druid_node.proofs.answering.slices_of.Given as goal
 

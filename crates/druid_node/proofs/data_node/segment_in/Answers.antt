@@ -1,6 +1,6 @@
 use Rattle.std.proofs.Common.{◌≡◌, true, false, ap, sym, ◌∙◌, subst, bytes_eq}
-use Rattle.druid_shard.specs.Described.{Described}
-use Rattle.druid_segid.specs.Identifier.{Identifier}
+use Rattle.druid_segment_descriptor.specs.Described.{Described}
+use Rattle.druid_segment_id.specs.Identifier.{Identifier}
 use Rattle.druid_node.specs.Files.{file_name, RefusesBytes}
 use Rattle.druid_node.proofs.FileLemmas.{reported_bytes, under_name, under_other, is_read}
 use Rattle.druid_node.proofs.data_node.segment_in.Goals as goal

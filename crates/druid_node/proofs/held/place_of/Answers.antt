@@ -2,9 +2,9 @@ use Rattle.std.proofs.Common.{◌+◌, ◌-◌, ◌/◌, map, arith, ap, ◌∙�
 use Rattle.std.specs.Arc.{arc_value}
 use Rattle.std.specs.Ordering.{nat_cmp}
 use Rattle.std.specs.Cmp.Lexicographic.{slice_cmp}
-use Rattle.druid_segid.specs.Identifier.{Identifier, identifier_text, identifier_cmp}
-use Rattle.druid_shard.specs.Described.{Described}
-use Rattle.druid_shard.proofs.PlaceLemmas.{IsLeft-above, IsLeft-below, StandsAt-found}
+use Rattle.druid_segment_id.specs.Identifier.{Identifier, identifier_text, identifier_cmp}
+use Rattle.druid_segment_descriptor.specs.Described.{Described}
+use Rattle.druid_segment_descriptor.proofs.PlaceLemmas.{IsLeft-above, IsLeft-below, StandsAt-found}
 use Rattle.druid_node.specs.State.{descriptors_of}
 use Rattle.druid_node.proofs.PlaceLemmas.{described_at}
 use Rattle.druid_node.proofs.held.place_of.Goals as goal

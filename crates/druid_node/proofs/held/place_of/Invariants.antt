@@ -1,6 +1,6 @@
 use Rattle.std.proofs.Common.{◌-◌, map}
 use Rattle.std.specs.Arc.{arc_value}
-use Rattle.druid_shard.proofs.PlaceLemmas.{IsLeft}
+use Rattle.druid_segment_descriptor.proofs.PlaceLemmas.{IsLeft}
 use Rattle.druid_node.specs.State.{descriptors_of}
 use Rattle.druid_node.proofs.held.place_of.Given as goal
 

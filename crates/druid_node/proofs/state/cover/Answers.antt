@@ -1,5 +1,5 @@
 use Rattle.std.proofs.Common.{refl}
-use Rattle.druid_shard.specs.declared.change.Change.TheVariants.{Load}
+use Rattle.druid_segment_descriptor.specs.declared.change.Change.TheVariants.{Load}
 use Rattle.druid_node.specs.Held.{state_of}
 use Rattle.druid_node.proofs.StateLemmas.{IsReady, covered-state, state_stays}
 use Rattle.druid_node.proofs.state.cover.Goals as goal

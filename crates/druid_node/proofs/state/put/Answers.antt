@@ -1,6 +1,6 @@
 use Rattle.std.proofs.Common.{◌≡◌, refl, ap, ◌∙◌, subst}
-use Rattle.druid_shard.specs.Described.{Described, IsDescribed}
-use Rattle.druid_shard.specs.declared.change.Change.TheVariants.{Load}
+use Rattle.druid_segment_descriptor.specs.Described.{Described, IsDescribed}
+use Rattle.druid_segment_descriptor.specs.declared.change.Change.TheVariants.{Load}
 use Rattle.druid_node.specs.Held.{IsWhole, state_of}
 use Rattle.druid_node.proofs.StateLemmas.{IsReady, ready_strict, ready_room, loaded-state, loaded-takes, loaded-there, loaded-undone, same_state, state_stays, recorded_as}
 use Rattle.druid_node.proofs.state.put.Goals as goal

@@ -1,4 +1,4 @@
-use Rattle.druid_shard.specs.declared.change.Change.TheVariants.{Drop}
+use Rattle.druid_segment_descriptor.specs.declared.change.Change.TheVariants.{Drop}
 use Rattle.druid_node.proofs.StateLemmas.{drop_recorded}
 use Rattle.druid_node.proofs.state.record_drop.Goals as goal
 

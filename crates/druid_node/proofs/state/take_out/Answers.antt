@@ -1,6 +1,6 @@
 use Rattle.std.proofs.Common.{ap}
 use Rattle.std.specs.Option.{is_some}
-use Rattle.druid_shard.specs.declared.change.Change.TheVariants.{Drop}
+use Rattle.druid_segment_descriptor.specs.declared.change.Change.TheVariants.{Drop}
 use Rattle.druid_node.specs.Held.{state_of}
 use Rattle.druid_node.proofs.StateLemmas.{IsReady, held_found, dropped-state, dropped-leaves}
 use Rattle.druid_node.proofs.state.take_out.Goals as goal

@@ -1,4 +1,4 @@
-use Rattle.druid_shard.specs.declared.change.Change.TheVariants.{Drop}
+use Rattle.druid_segment_descriptor.specs.declared.change.Change.TheVariants.{Drop}
 use Rattle.druid_node.specs.Held.{state_of}
 use Rattle.druid_node.proofs.StateLemmas.{IsReady, uncovered-state, uncovered-leaves}
 use Rattle.druid_node.proofs.state.uncover.Goals as goal

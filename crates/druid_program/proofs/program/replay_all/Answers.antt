@@ -1,5 +1,5 @@
 use Rattle.std.proofs.Common.{rules, Ok, Err}
-use Rattle.druid_cluster.proofs.RunLemmas.{ends_by}
+use Rattle.druid_replay.proofs.RunLemmas.{ends_by}
 use Rattle.druid_program.proofs.ReasonLemmas.{nothing_reported}
 use Rattle.druid_program.proofs.program.replay_all.Goals as goal
 

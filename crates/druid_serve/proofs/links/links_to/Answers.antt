@@ -1,7 +1,7 @@
 use Rattle.std.proofs.Common.{rules, ◌≡◌, ◌<◌, ◌∙◌, ℕ, Some, List, length, slice_get, ap, subst, sym}
 use Rattle.std.proofs.lemmas.Option.{slice_get-get_or}
 use Rattle.std.specs.Arc.{arc_value}
-use Rattle.druid_config.specs.Configs.{Node}
+use Rattle.druid_serve_config.specs.Configs.{Node}
 use Rattle.druid_serve.specs.Links.{NodeLinkValue, IsLinkAt}
 use Rattle.druid_serve.proofs.LinkLemmas.{link_at, one_link}
 use Rattle.druid_serve.proofs.links.links_to.Goals as goal

@@ -1,5 +1,5 @@
 use Rattle.std.proofs.Common.{rules, ◌<◌, ◌∙◌, ap, get_or, length}
-use Rattle.druid_config.specs.Parts.{has_broker}
+use Rattle.druid_serve_config.specs.Parts.{has_broker}
 use Rattle.druid_serve.proofs.PartLemmas.{one_asked}
 use Rattle.druid_serve.proofs.serving.ask_all.Goals as goal
 

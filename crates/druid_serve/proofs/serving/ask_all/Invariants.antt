@@ -1,7 +1,7 @@
 use Rattle.std.proofs.Common.{ℕ, List, take, count_by}
 use Rattle.std.specs.Io.KnownBytes.{Appends}
-use Rattle.druid_config.specs.Parts.{has_broker}
-use Rattle.druid_server.specs.Printed.{ArePrinted}
+use Rattle.druid_serve_config.specs.Parts.{has_broker}
+use Rattle.druid_serve_base.specs.Printed.{ArePrinted}
 use Rattle.druid_serve.proofs.serving.ask_all.Given as goal
 
 abbrev pub invariant-loop-place : goal.invariant-loop-place

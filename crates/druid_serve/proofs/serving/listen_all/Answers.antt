@@ -1,5 +1,5 @@
 use Rattle.std.proofs.Common.{◌∙◌, ap, sym, refl}
-use Rattle.druid_config.specs.Parts.{has_broker}
+use Rattle.druid_serve_config.specs.Parts.{has_broker}
 use Rattle.druid_serve.proofs.PartLemmas.{one_listens, one_passed}
 use Rattle.druid_serve.proofs.serving.listen_all.Goals as goal
 use Rattle.druid_serve.proofs.serving.listen_all.Goals.{then-has_broker+in-Ok+in_ok-new+in_ok-status_listener+in_ok-push, else-has_broker}

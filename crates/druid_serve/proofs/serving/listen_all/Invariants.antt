@@ -1,6 +1,6 @@
 use Rattle.std.proofs.Common.{◌≡◌, map, filter}
 use Rattle.std.specs.List.{range_with_len}
-use Rattle.druid_config.specs.Parts.{has_broker}
+use Rattle.druid_serve_config.specs.Parts.{has_broker}
 use Rattle.druid_serve.proofs.serving.listen_all.Given as goal
 
 abbrev pub invariant-loop-place : goal.invariant-loop-place

@@ -1,7 +1,7 @@
 use Rattle.std.proofs.Common.{◌≡◌, vec_len, take, count_by}
-use Rattle.druid_config.specs.Parts.{has_node}
+use Rattle.druid_serve_config.specs.Parts.{has_node}
 use Rattle.druid_serve.proofs.serving.start_nodes.Given as goal
-use Rattle.druid_store.specs.Unknown.{unknown_content, unknown_left, unknown_during}
+use Rattle.druid_folder_store.specs.Unknown.{unknown_content, unknown_left, unknown_during}
 
 -- the folders of each node are on the devices at its path
 abbrev pub ghosts-start_node-D-Device : goal.ghosts-start_node-D-Device

@@ -1,8 +1,8 @@
 use Rattle.std.proofs.Common.{rules, List}
 use mathlib.Core.List.{IsPrefix}
-use Rattle.druid_config.specs.Configs.{Node}
-use Rattle.druid_published.proofs.Beginnings.{prefix_self, prefix_trans}
-use Rattle.druid_server.proofs.FoldLemmas.{folds_keep}
+use Rattle.druid_serve_config.specs.Configs.{Node}
+use Rattle.druid_inventory_views.proofs.Beginnings.{prefix_self, prefix_trans}
+use Rattle.druid_serve_base.proofs.FoldLemmas.{folds_keep}
 use Rattle.druid_serve.specs.Links.{LeadTo}
 use Rattle.druid_serve.proofs.worker.answer_front.Goals as goal
 

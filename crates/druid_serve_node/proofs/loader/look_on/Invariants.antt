@@ -1,6 +1,6 @@
 use Rattle.std.proofs.Common.{◌≡◌, ◌≢◌}
 use Rattle.std.specs.declared.cmp.Ordering.TheVariants.{Greater}
-use Rattle.druid_shard.specs.Mark.{mark_cmp}
+use Rattle.druid_segment_descriptor.specs.Mark.{mark_cmp}
 use Rattle.druid_serve_node.proofs.loader.look_on.Given as goal
 
 abbrev pub invariant-loop : goal.invariant-loop

@@ -2,7 +2,7 @@ use Rattle.std.proofs.Common.{zero, true, ◌≡◌, ℕ, List, IfSome, subst}
 use Rattle.std.proofs.lemmas.Result.{on_ok_weaker}
 use Rattle.druid_folder.specs.Folder.{names_of}
 use Rattle.druid_node.specs.declared.fault.NodeFault.TheVariants.{Memory}
-use Rattle.druid_server.specs.Faults.{NamesFile}
+use Rattle.druid_serve_base.specs.Faults.{NamesFile}
 use Rattle.druid_serve_node.specs.Files.{is_segment_file, IsTaken}
 use Rattle.druid_serve_node.specs.declared.segment_files.DecodedFile.{DecodedFile}
 use Rattle.druid_serve_node.proofs.SegmentFileLemmas.{of_names, to_names, all_taken, cause_of_load}

@@ -1,7 +1,7 @@
 use Rattle.std.proofs.Common.{◌≢◌, rules}
 use Rattle.std.specs.declared.cmp.Ordering.TheVariants.{Greater}
-use Rattle.druid_shard.specs.Mark.{Point, mark_cmp}
-use Rattle.druid_server.proofs.FoldLemmas.{folds_keep}
+use Rattle.druid_segment_descriptor.specs.Mark.{Point, mark_cmp}
+use Rattle.druid_serve_base.proofs.FoldLemmas.{folds_keep}
 use Rattle.druid_serve_node.proofs.worker.answer_connections.Goals as goal
 
 pub returns : goal.returns

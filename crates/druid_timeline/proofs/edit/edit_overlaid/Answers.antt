@@ -1,6 +1,6 @@
 use Rattle.std.proofs.Common.{◌<◌, ◌≤◌, ◌⊎◌, ◌↔◌, ℕ, map, take, drop, sym, subst}
 use Rattle.std.specs.List.{Contains}
-use Rattle.druid_segid.specs.Group.{Group}
+use Rattle.druid_segment_id.specs.Group.{Group}
 use Rattle.druid_time.specs.Extent.{Extent, Has}
 use Rattle.druid_timeline.specs.Edited.{AreRunsEdited, IsOverlaid, spliced}
 use Rattle.druid_timeline.specs.Pieces.{Shows, shown_at}

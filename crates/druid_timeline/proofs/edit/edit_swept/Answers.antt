@@ -1,6 +1,6 @@
 use Rattle.std.proofs.Common.{◌<◌, ◌≤◌, ◌⊎◌, ◌↔◌, ℕ, map, take, drop, subst}
 use Rattle.std.specs.List.{Contains}
-use Rattle.druid_segid.specs.Group.{Group}
+use Rattle.druid_segment_id.specs.Group.{Group}
 use Rattle.druid_timeline.specs.Candidates.{IsBestOf}
 use Rattle.druid_timeline.specs.Pieces.{Shows, shown_at}
 use Rattle.druid_timeline.proofs.SkylineLemmas.{borrowed}

@@ -1,5 +1,5 @@
 use Rattle.std.proofs.Common.{inl, inr, sym}
-use Rattle.druid_segid.proofs.GroupLemmas.{Outranks-one_way}
+use Rattle.druid_segment_id.proofs.GroupLemmas.{Outranks-one_way}
 use Rattle.druid_timeline.proofs.laws.one_is_visible.Goals as goal
 
 pub returns : goal.returns

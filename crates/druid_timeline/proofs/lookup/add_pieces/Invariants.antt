@@ -1,6 +1,6 @@
 use Rattle.std.proofs.Common.{◌≡◌, ◌-◌, ◌<◌, ◌++◌, length, map, drop}
 use Rattle.std.specs.List.{All, Contains}
-use Rattle.druid_chunks.specs.Chunks.{members_at}
+use Rattle.druid_timeline_chunks.specs.Chunks.{members_at}
 use Rattle.druid_timeline.specs.Known.{AreKnown}
 use Rattle.druid_timeline.specs.Pieces.{ArePartitions, shown_of}
 use Rattle.druid_timeline.proofs.LookupLemmas.{cut_runs}

@@ -1,8 +1,8 @@
 use Rattle.std.proofs.Common.{List, [], sym, subst, ◌∙◌}
-use Rattle.druid_members.specs.Members.{Member}
-use Rattle.druid_chunks.proofs.ChunkLemmas.{members_at-of, members_at-none}
+use Rattle.druid_timeline_members.specs.Members.{Member}
+use Rattle.druid_timeline_chunks.proofs.ChunkLemmas.{members_at-of, members_at-none}
 use Rattle.druid_timeline.specs.Pieces.{ArePartitions}
-use Rattle.druid_chunks.proofs.EditLemmas.{if_ok_weaker}
+use Rattle.druid_timeline_chunks.proofs.EditLemmas.{if_ok_weaker}
 use Rattle.druid_timeline.proofs.LookupLemmas.{no_partitions}
 use Rattle.druid_timeline.proofs.lookup.partitions_of.Goals as goal
 

@@ -1,6 +1,6 @@
 use Rattle.std.proofs.Common.{◌≡◌, ◌++◌, map, drop}
 use Rattle.std.specs.List.{All}
-use Rattle.druid_chunks.specs.Chunks.{members_at}
+use Rattle.druid_timeline_chunks.specs.Chunks.{members_at}
 use Rattle.druid_timeline.specs.Known.{AreKnown}
 use Rattle.druid_timeline.specs.Pieces.{ArePartitions, cut, shown_at, shown_of}
 use Rattle.druid_timeline.proofs.lookup.pieces_in.Given as goal

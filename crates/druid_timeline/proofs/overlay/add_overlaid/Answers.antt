@@ -2,7 +2,7 @@ use Rattle.std.proofs.Common.{◌≡◌, ◌<◌, ◌≤◌, ◌⊎◌, ◌↔�
 use Rattle.std.specs.List.{Contains}
 use Rattle.std.specs.Result.{OnOk}
 use Rattle.druid_time.specs.Extent.{Extent, Has, common}
-use Rattle.druid_segid.specs.Group.{Group}
+use Rattle.druid_segment_id.specs.Group.{Group}
 use Rattle.druid_timeline.specs.Edited.{IsOverlaid}
 use Rattle.druid_timeline.specs.Pieces.{Shows, shown_at}
 use Rattle.druid_timeline.specs.Stretches.{EndBy}

@@ -2,9 +2,9 @@ use Rattle.std.specs.Bool.{IsTrue}
 use Rattle.std.specs.HashSet as set
 use Rattle.std.proofs.lemmas.List.Sorted.{Contains-permutation, IsPermutation-sym, IsPermutation-trans}
 use Rattle.std.proofs.lemmas.Map.Keys.{IsDistinct-IsPermutation}
-use Rattle.druid_segid.specs.Group.{same_group}
-use Rattle.druid_chunks.specs.Chunks.{IsCompleteOf}
-use Rattle.druid_chunks.proofs.ChunkLemmas.{same_group-equiv}
+use Rattle.druid_segment_id.specs.Group.{same_group}
+use Rattle.druid_timeline_chunks.specs.Chunks.{IsCompleteOf}
+use Rattle.druid_timeline_chunks.proofs.ChunkLemmas.{same_group-equiv}
 use Rattle.druid_timeline.proofs.PlaceLemmas.{strictly_sorted}
 use Rattle.druid_timeline.proofs.UnseenLemmas.{IsShownBy, unseen_of}
 use Rattle.druid_timeline.proofs.overshadowed.overshadowed_in.Goals as goal

@@ -1,7 +1,7 @@
 use Rattle.std.proofs.Common.{◌≡◌, ◌∙◌, ◌↔◌, Equal, Bool, sym, subst, rules}
 use Rattle.std.specs.Bool.{IsTrue}
 use Rattle.std.proofs.lemmas.Bool.{false≢true}
-use Rattle.druid_segid.specs.Group.{Group, Outranks}
+use Rattle.druid_segment_id.specs.Group.{Group, Outranks}
 use Rattle.druid_timeline.proofs.PlaceLemmas.{place_cmp-below, place_cmp-level}
 use Rattle.druid_timeline.proofs.overshadowed.place_order.Goals as goal
 

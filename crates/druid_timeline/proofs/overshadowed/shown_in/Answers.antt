@@ -2,7 +2,7 @@ use Rattle.std.proofs.Common.{◌↔◌, List, subst}
 use Rattle.std.specs.Bool.{IsTrue}
 use Rattle.std.specs.HashSet as set
 use Rattle.std.proofs.lemmas.List.{take_all}
-use Rattle.druid_segid.specs.Group.{same_group}
+use Rattle.druid_segment_id.specs.Group.{same_group}
 use Rattle.druid_timeline.proofs.SweepLemmas.{Run}
 use Rattle.druid_timeline.proofs.UnseenLemmas.{IsShownBy, IsShownBy-more}
 use Rattle.druid_timeline.proofs.overshadowed.shown_in.Goals as goal

@@ -1,7 +1,7 @@
 use Rattle.std.proofs.Common.{◌↔◌, take}
 use Rattle.std.specs.Bool.{IsTrue}
 use Rattle.std.specs.HashSet as set
-use Rattle.druid_segid.specs.Group.{Group, same_group}
+use Rattle.druid_segment_id.specs.Group.{Group, same_group}
 use Rattle.druid_timeline.proofs.UnseenLemmas.{IsShownBy}
 use Rattle.druid_timeline.proofs.overshadowed.shown_in.Given as goal
 

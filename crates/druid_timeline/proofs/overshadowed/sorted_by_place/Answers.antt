@@ -1,7 +1,7 @@
 use Rattle.std.proofs.Common.{◌≡◌, ◌++◌, ◌∷◌, [], List, sym, subst, rules}
 use Rattle.std.specs.List.{insert}
 use Rattle.std.specs.List.Sorted.{IsSorted, IsPermutation}
-use Rattle.druid_segid.specs.Group.{Group}
+use Rattle.druid_segment_id.specs.Group.{Group}
 use Rattle.druid_timeline.specs.Overshadowed.{place_cmp}
 use Rattle.druid_timeline.proofs.PlaceLemmas.{IsPermutation-one_more}
 use Rattle.druid_timeline.proofs.overshadowed.sorted_by_place.Goals as goal

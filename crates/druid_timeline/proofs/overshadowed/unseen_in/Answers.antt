@@ -2,9 +2,9 @@ use Rattle.std.proofs.Common.{◌∙◌, ◌++◌, ◌+◌, ◌<◌, ◌≡◌, 
 use Rattle.std.specs.HashSet as set
 use Rattle.std.proofs.lemmas.Bool.{false≢true}
 use Rattle.std.proofs.lemmas.List.{drop_all}
-use Rattle.druid_segid.specs.Group.{Group, same_group}
-use Rattle.druid_members.specs.Members.{IsComplete}
-use Rattle.druid_chunks.specs.Chunks.{Chunk}
+use Rattle.druid_segment_id.specs.Group.{Group, same_group}
+use Rattle.druid_timeline_members.specs.Members.{IsComplete}
+use Rattle.druid_timeline_chunks.specs.Chunks.{Chunk}
 use Rattle.druid_timeline.proofs.SweepLemmas.{drop_next}
 use Rattle.druid_timeline.proofs.UnseenLemmas.{AreUnseen, AreUnseen-start, AreUnseen-more, AreUnseen-skip, AreUnseen-end}
 use Rattle.druid_timeline.proofs.overshadowed.unseen_in.Goals as goal

@@ -1,6 +1,6 @@
 use Rattle.std.proofs.Common.{drop}
 use Rattle.std.specs.HashSet as set
-use Rattle.druid_segid.specs.Group.{same_group}
+use Rattle.druid_segment_id.specs.Group.{same_group}
 use Rattle.druid_timeline.proofs.UnseenLemmas.{AreUnseen}
 use Rattle.druid_timeline.proofs.overshadowed.unseen_in.Given as goal
 

@@ -2,7 +2,7 @@ use Rattle.std.proofs.Common.{sym, ◌∙◌, subst, arith}
 use Rattle.std.proofs.lemmas.Bool.{false≢true}
 use Rattle.std.proofs.lemmas.List.{get_or_default}
 use Rattle.std.proofs.lemmas.List.Elements.{AllWithin-more}
-use Rattle.druid_segid.specs.Group.{Outranks}
+use Rattle.druid_segment_id.specs.Group.{Outranks}
 use Rattle.druid_timeline.proofs.SkylineLemmas.{borrowed, borrowed_at, borrowed_within, none_after}
 use Rattle.druid_timeline.proofs.skyline.first_better.Goals as goal
 

@@ -1,6 +1,6 @@
 use Rattle.std.proofs.Common.{◌≤◌, ◌+◌, ◌-◌, length}
 use Rattle.std.specs.List.{AllWithin}
-use Rattle.druid_segid.specs.Group.{Outranks}
+use Rattle.druid_segment_id.specs.Group.{Outranks}
 use Rattle.druid_timeline.proofs.SkylineLemmas.{borrowed}
 use Rattle.druid_timeline.proofs.skyline.first_better.Given as goal
 

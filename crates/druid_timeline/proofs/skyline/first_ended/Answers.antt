@@ -1,7 +1,7 @@
 use Rattle.std.proofs.Common.{◌<◌, ◌≤◌, nat_lt, get_or, rules, Bor}
 use Rattle.std.proofs.lemmas.Bool.{ltb-true, ltb-false}
 use Rattle.std.proofs.lemmas.List.Sorted.{IsPartitionPoint-from_clause}
-use Rattle.druid_segid.specs.Group.{Group}
+use Rattle.druid_segment_id.specs.Group.{Group}
 use Rattle.druid_timeline.proofs.SkylineLemmas.{parted_past, taken_borrowed, left_borrowed}
 use Rattle.druid_timeline.proofs.skyline.first_ended.Goals as goal
 

@@ -2,7 +2,7 @@ use Rattle.std.proofs.Common.{◌<◌, ◌≤◌, nat_cmp, get_or, rules, Bor}
 use Rattle.std.specs.Ordering.{is_le}
 use Rattle.std.proofs.lemmas.List.Sorted.{IsPartitionPoint-from_clause}
 use Rattle.druid_time.proofs.ExtentLemmas.{at_most, above}
-use Rattle.druid_segid.specs.Group.{Group}
+use Rattle.druid_segment_id.specs.Group.{Group}
 use Rattle.druid_timeline.proofs.SkylineLemmas.{parted_to, taken_borrowed, left_borrowed}
 use Rattle.druid_timeline.proofs.skyline.first_ending_before.Goals as goal
 

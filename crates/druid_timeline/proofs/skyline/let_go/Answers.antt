@@ -1,7 +1,7 @@
 use Rattle.std.proofs.Common.{◌≡◌, ℕ, inl, inr, List, take, sym, ap, ◌∙◌, subst, Bor}
 use Rattle.std.specs.List.{Contains}
 use Rattle.std.proofs.lemmas.List.{take-map}
-use Rattle.druid_segid.specs.Group.{Group}
+use Rattle.druid_segment_id.specs.Group.{Group}
 use Rattle.druid_timeline.specs.Skyline.{IsSkyline}
 use Rattle.druid_timeline.proofs.SkylineLemmas.{borrowed, IsSkyline-take, of_take, parts_at}
 use Rattle.druid_timeline.proofs.skyline.let_go.Goals as goal

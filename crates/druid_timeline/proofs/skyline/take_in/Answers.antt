@@ -2,7 +2,7 @@ use Rattle.std.proofs.Common.{◌≡◌, ◌⊎◌, ◌≤◌, ℕ, length, take
 use Rattle.std.specs.List.{Contains}
 use Rattle.std.proofs.lemmas.Bool.{false≢true}
 use Rattle.std.proofs.lemmas.Result.{on_ok_weaker}
-use Rattle.druid_segid.specs.Group.{Group, Outranks}
+use Rattle.druid_segment_id.specs.Group.{Group, Outranks}
 use Rattle.druid_timeline.specs.Skyline.{IsSkyline, IsCovered}
 use Rattle.druid_timeline.proofs.SkylineLemmas.{borrowed, taken_in, replaced_order, replaced_among, replaced_covers, replaced_keeps, covered_by, length-borrowed, length-replaced}
 use Rattle.druid_timeline.proofs.skyline.take_in.Goals as goal

@@ -1,6 +1,6 @@
 use Rattle.std.proofs.Common.{◌≡◌, ◌<◌, ◌≤◌, List, length, drop, MatchOption, ap, subst, arith, rules, Bor}
 use Rattle.std.specs.Option.{option_copied}
-use Rattle.druid_segid.specs.Group.{Group}
+use Rattle.druid_segment_id.specs.Group.{Group}
 use Rattle.druid_timeline.specs.Candidates.{IsBestOf}
 use Rattle.druid_timeline.proofs.SkylineLemmas.{borrowed, IsBestIn, IsSkylineOf-start, IsSkylineOf-later, best_onward, seen_between}
 use Rattle.druid_timeline.proofs.SweepLemmas.{IsSwept-start, IsSwept-add, IsSwept-beyond, IsSwept-end}

@@ -1,6 +1,6 @@
 use Rattle.std.proofs.Common.{List, length, map, sym, ap, subst, arith, Bor}
 use Rattle.druid_time.specs.Extent.{Has}
-use Rattle.druid_segid.specs.Group.{Group, group_of}
+use Rattle.druid_segment_id.specs.Group.{Group, group_of}
 use Rattle.druid_timeline.specs.Candidates.{IsBestOf}
 use Rattle.druid_timeline.specs.Chunks.{held_in}
 use Rattle.druid_timeline.specs.Edited.{AreRunsEdited, IsWithin, spliced}

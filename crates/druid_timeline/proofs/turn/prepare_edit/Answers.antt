@@ -1,8 +1,8 @@
 use Rattle.std.proofs.Common.{◌↔◌, ◌≤◌, ◌+◌, Bool, List, [], ◌∷◌, length, map, sym, ◌∙◌, subst}
 use Rattle.std.specs.Bool.{IsTrue}
 use Rattle.std.proofs.lemmas.Bool.{false≢true}
-use Rattle.druid_segid.specs.Group.{group_of}
-use Rattle.druid_chunks.proofs.EditLemmas.{if_ok_weaker}
+use Rattle.druid_segment_id.specs.Group.{group_of}
+use Rattle.druid_timeline_chunks.proofs.EditLemmas.{if_ok_weaker}
 use Rattle.druid_timeline.specs.Chunks.{held_in}
 use Rattle.druid_timeline.specs.Edited.{ArePiecesThen}
 use Rattle.druid_timeline.specs.Exchanges.{settled}

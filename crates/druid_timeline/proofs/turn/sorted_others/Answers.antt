@@ -1,6 +1,6 @@
 use Rattle.std.proofs.Common.{◌≡◌, length, arith, rules, Bor}
 use Rattle.std.proofs.lemmas.List.Sorted.{IsPermutation-sym, IsNonDecreasingBy-from_sort_by_key}
-use Rattle.druid_segid.specs.Group.{Group, group_of}
+use Rattle.druid_segment_id.specs.Group.{Group, group_of}
 use Rattle.druid_timeline.proofs.SkylineLemmas.{borrowed, borrowed_moved, borrowed_order, length-borrowed}
 use Rattle.druid_timeline.proofs.TurnLemmas.{few_others}
 use Rattle.druid_timeline.proofs.turn.sorted_others.Goals as goal

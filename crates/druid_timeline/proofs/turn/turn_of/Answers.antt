@@ -1,5 +1,5 @@
 use Rattle.std.proofs.Common.{◌≤◌, ◌+◌, [], ◌∷◌, length, map, refl, subst, arith}
-use Rattle.druid_segid.specs.Group.{Group, group_of}
+use Rattle.druid_segment_id.specs.Group.{Group, group_of}
 use Rattle.druid_timeline.specs.Chunks.{held_in}
 use Rattle.druid_timeline.specs.Edited.{AreRunsEdited, IsOverlaid, spliced}
 use Rattle.druid_timeline.specs.Pieces.{cut, shown_at}

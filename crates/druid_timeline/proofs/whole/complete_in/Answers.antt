@@ -1,9 +1,9 @@
 use Rattle.std.proofs.Common.{◌∙◌, ◌++◌, ◌+◌, ◌<◌, ◌≡◌, ◌≤◌, List, [], ◌∷◌, length, drop, get_or, false, sym, ap, subst}
 use Rattle.std.proofs.lemmas.Bool.{false≢true}
 use Rattle.std.proofs.lemmas.List.{drop_all}
-use Rattle.druid_segid.specs.Group.{Group}
-use Rattle.druid_members.specs.Members.{IsComplete}
-use Rattle.druid_chunks.specs.Chunks.{Chunk}
+use Rattle.druid_segment_id.specs.Group.{Group}
+use Rattle.druid_timeline_members.specs.Members.{IsComplete}
+use Rattle.druid_timeline_chunks.specs.Chunks.{Chunk}
 use Rattle.druid_timeline.proofs.SkylineLemmas.{borrowed, borrowed_push}
 use Rattle.druid_timeline.proofs.SweepLemmas.{drop_next}
 use Rattle.druid_timeline.proofs.UnseenLemmas.{AreUnseen, AreUnseen-start, AreUnseen-more, AreUnseen-skip, AreUnseen-end}

@@ -1,5 +1,5 @@
 use Rattle.std.proofs.Common.{drop, false}
-use Rattle.druid_segid.specs.Group.{Group}
+use Rattle.druid_segment_id.specs.Group.{Group}
 use Rattle.druid_timeline.proofs.SkylineLemmas.{borrowed}
 use Rattle.druid_timeline.proofs.UnseenLemmas.{AreUnseen}
 use Rattle.druid_timeline.proofs.whole.complete_in.Given as goal

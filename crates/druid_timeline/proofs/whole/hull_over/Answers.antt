@@ -1,6 +1,6 @@
 use Rattle.std.proofs.Common.{List, None, subst, arith}
 use Rattle.std.proofs.lemmas.List.{take_all}
-use Rattle.druid_segid.specs.Group.{Group}
+use Rattle.druid_segment_id.specs.Group.{Group}
 use Rattle.druid_timeline.proofs.SkylineLemmas.{borrowed, length-borrowed}
 use Rattle.druid_timeline.proofs.WholeLemmas.{IsHullOver, IsHullOver-none, IsHullOver-more}
 use Rattle.druid_timeline.proofs.whole.hull_over.Goals as goal

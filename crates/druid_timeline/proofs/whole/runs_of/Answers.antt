@@ -1,5 +1,5 @@
 use Rattle.std.proofs.Common.{◌⊎◌, ◌↔◌, ℕ, List, length, map, None, Some, ap, subst, arith, Bor}
-use Rattle.druid_segid.specs.Group.{Group}
+use Rattle.druid_segment_id.specs.Group.{Group}
 use Rattle.druid_time.specs.Extent.{Has}
 use Rattle.druid_timeline.specs.Candidates.{IsBestOf}
 use Rattle.druid_timeline.specs.Pieces.{Shows, shown_at}

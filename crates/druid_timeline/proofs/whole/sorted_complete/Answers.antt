@@ -1,6 +1,6 @@
 use Rattle.std.proofs.Common.{◌≡◌, length, arith, rules, Bor}
 use Rattle.std.proofs.lemmas.List.Sorted.{IsPermutation-sym, IsNonDecreasingBy-from_sort_by_key}
-use Rattle.druid_segid.specs.Group.{Group}
+use Rattle.druid_segment_id.specs.Group.{Group}
 use Rattle.druid_timeline.proofs.SkylineLemmas.{borrowed, borrowed_moved, borrowed_order, length-borrowed}
 use Rattle.druid_timeline.proofs.WholeLemmas.{few_complete}
 use Rattle.druid_timeline.proofs.whole.sorted_complete.Goals as goal

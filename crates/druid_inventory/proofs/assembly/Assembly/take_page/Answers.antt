@@ -1,6 +1,6 @@
 use Rattle.std.proofs.Common.{◌∙◌, Option, None, Some, Result, Ok, IfOk, sym, subst}
-use Rattle.druid_shard.specs.declared.reply.Body.{Body}
-use Rattle.druid_pages.specs.Assembly.{Parts, Page, Takes}
+use Rattle.druid_segment_descriptor.specs.declared.reply.Body.{Body}
+use Rattle.druid_sync_pages.specs.Assembly.{Parts, Page, Takes}
 use Rattle.druid_inventory.specs.Assembly.{Gives}
 use Rattle.druid_inventory.specs.declared.fault.ApplyFault.{ApplyFault}
 use Rattle.druid_inventory.proofs.PageLemmas.{is_page, gives_set, gives_none}

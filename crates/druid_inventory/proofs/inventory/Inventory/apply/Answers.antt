@@ -1,7 +1,7 @@
 use Rattle.std.proofs.Common.{subst}
 use Rattle.std.specs.Result.{IfOk, IfErr}
 use Rattle.std.proofs.lemmas.Result.{IfOk-weaker}
-use Rattle.druid_shard.specs.declared.reply.Body.{Body}
+use Rattle.druid_segment_descriptor.specs.declared.reply.Body.{Body}
 use Rattle.druid_inventory.specs.Step.{Tells}
 use Rattle.druid_inventory.proofs.StepLemmas.{SomeStep, unknown_exact, refused_exact}
 use Rattle.druid_inventory.proofs.inventory.Inventory.apply.Goals as goal

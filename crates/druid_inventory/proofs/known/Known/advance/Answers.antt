@@ -1,4 +1,4 @@
-use Rattle.druid_shard.proofs.ReplayLemmas.{replay_from-set}
+use Rattle.druid_segment_descriptor.proofs.ReplayLemmas.{replay_from-set}
 use Rattle.druid_inventory.proofs.known.Known.advance.Goals as goal
 
 pub invariant_of-self-2 : goal.invariant_of-self-2

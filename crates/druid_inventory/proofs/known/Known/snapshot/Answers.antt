@@ -1,6 +1,6 @@
 use Rattle.std.proofs.Common.{◌≡◌, sym, subst, ◌∙◌}
-use Rattle.druid_shard.specs.Replay.{IsSegmentSet}
-use Rattle.druid_shard.specs.declared.reply.Body.TheVariants.{Snapshot}
+use Rattle.druid_segment_descriptor.specs.Replay.{IsSegmentSet}
+use Rattle.druid_segment_descriptor.specs.declared.reply.Body.TheVariants.{Snapshot}
 use Rattle.druid_inventory.proofs.known.Known.snapshot.Goals as goal
 
 pub snapshot_of-requires-clause-set : goal.snapshot_of-requires-clause-set

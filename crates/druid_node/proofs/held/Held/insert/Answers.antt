@@ -1,10 +1,10 @@
 use Rattle.std.proofs.Common.{map, sym, ap, ◌∙◌, subst}
 use Rattle.std.specs.Arc.{arc_value}
-use Rattle.druid_segid.specs.Identifier.{Identifier}
-use Rattle.druid_shard.specs.Described.{Described, IsDescribed}
-use Rattle.druid_shard.specs.Replay.{StandsAt, BelongsAt, is_strict, has_room}
-use Rattle.druid_shard.specs.declared.change.Change.TheVariants.{Load}
-use Rattle.druid_shard.proofs.PlaceLemmas.{stands_not_strict}
+use Rattle.druid_segment_id.specs.Identifier.{Identifier}
+use Rattle.druid_segment_descriptor.specs.Described.{Described, IsDescribed}
+use Rattle.druid_segment_descriptor.specs.Replay.{StandsAt, BelongsAt, is_strict, has_room}
+use Rattle.druid_segment_descriptor.specs.declared.change.Change.TheVariants.{Load}
+use Rattle.druid_segment_descriptor.proofs.PlaceLemmas.{stands_not_strict}
 use Rattle.druid_node.specs.State.{descriptors_of}
 use Rattle.druid_node.specs.Held.{IsWhole, IsHeld, with_held}
 use Rattle.druid_node.proofs.HeldLemmas.{inserted-held}

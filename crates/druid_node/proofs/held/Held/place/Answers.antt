@@ -1,10 +1,10 @@
 use Rattle.std.proofs.Common.{◌≡◌, List, map, sym, ap, ◌∙◌, subst}
 use Rattle.std.specs.Arc.{arc_value}
 use Rattle.std.specs.List.{slice_get}
-use Rattle.druid_rows.specs.Segment.{Segment}
-use Rattle.druid_shard.specs.Replay.{StandsAt, BelongsAt}
-use Rattle.druid_shard.proofs.ReplayLemmas.{in_order}
-use Rattle.druid_scan.specs.Once.{segment_named}
+use Rattle.druid_segment_rows.specs.Segment.{Segment}
+use Rattle.druid_segment_descriptor.specs.Replay.{StandsAt, BelongsAt}
+use Rattle.druid_segment_descriptor.proofs.ReplayLemmas.{in_order}
+use Rattle.druid_partial_scan.specs.Once.{segment_named}
 use Rattle.druid_node.specs.State.{descriptors_of}
 use Rattle.druid_node.proofs.PlaceLemmas.{named_at, absent_at}
 use Rattle.druid_node.proofs.held.Held.place.Goals as goal

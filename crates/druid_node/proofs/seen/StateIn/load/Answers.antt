@@ -1,5 +1,5 @@
 use Rattle.std.proofs.Common.{subst}
-use Rattle.druid_shard.specs.declared.change.Change.TheVariants.{Load}
+use Rattle.druid_segment_descriptor.specs.declared.change.Change.TheVariants.{Load}
 use Rattle.druid_node.specs.State.{State, Records}
 use Rattle.druid_node.proofs.SeenLemmas.{raised}
 use Rattle.druid_node.proofs.seen.StateIn.load.Goals as goal

@@ -1,7 +1,7 @@
 use Rattle.std.proofs.Common.{◌≡◌, ◌≢◌, OnOk, take}
 use Rattle.std.specs.List.{FoldsTo}
 use Rattle.std.specs.declared.cmp.Ordering.TheVariants.{Greater}
-use Rattle.druid_shard.specs.Mark.{mark_cmp}
+use Rattle.druid_segment_descriptor.specs.Mark.{mark_cmp}
 use Rattle.druid_folder.specs.Folder.{names_of}
 use Rattle.druid_serve_node.specs.Looks.{IsTried}
 use Rattle.druid_serve_node.proofs.watch.Watch.try_files.Given as goal

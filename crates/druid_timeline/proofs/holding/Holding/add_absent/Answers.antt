@@ -1,8 +1,8 @@
 use Rattle.std.proofs.Common.{List, ap, subst}
 use Rattle.std.specs.Result.{OnOk, OnErr}
 use Rattle.std.proofs.lemmas.Result.{on_ok_weaker, on_err_weaker}
-use Rattle.druid_segid.specs.Group.{group_of}
-use Rattle.druid_members.specs.Members.{member_of}
+use Rattle.druid_segment_id.specs.Group.{group_of}
+use Rattle.druid_timeline_members.specs.Members.{member_of}
 use Rattle.druid_timeline.specs.Chunks.{held_in}
 use Rattle.druid_timeline.specs.Holding.{Held, Serving, held_of, IsHeld, AddsHeld, SameHeld}
 use Rattle.druid_timeline.proofs.ChunkLemmas.{IsHeld-chunk, AddsHeld-chunk, SameHeld-chunk}

@@ -1,7 +1,7 @@
 use Rattle.std.proofs.Common.{List, ap, sym, subst}
 use Rattle.std.specs.Result.{OnOk, OnErr}
 use Rattle.std.proofs.lemmas.Result.{on_ok_weaker, on_err_weaker}
-use Rattle.druid_segid.specs.Group.{group_of}
+use Rattle.druid_segment_id.specs.Group.{group_of}
 use Rattle.druid_timeline.specs.Chunks.{held_in}
 use Rattle.druid_timeline.specs.Holding.{Held, Serving, IsHeld, RemovesHeld, RemovesOneHeld, SameHeld}
 use Rattle.druid_timeline.proofs.ChunkLemmas.{IsHeld-chunk, SameHeld-chunk, RemovesHeld-chunk, RemovesOneHeld-chunk}

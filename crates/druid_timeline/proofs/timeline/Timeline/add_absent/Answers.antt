@@ -1,6 +1,6 @@
 use Rattle.std.proofs.Common.{◌≤◌, ◌+◌, List, [], ◌∷◌, length, ap, subst}
 use Rattle.std.specs.Result.{OnOk, OnErr}
-use Rattle.druid_segid.specs.Group.{group_of}
+use Rattle.druid_segment_id.specs.Group.{group_of}
 use Rattle.druid_timeline.specs.Chunks.{held_in}
 use Rattle.druid_timeline.specs.Holding.{Held, Serving, IsCompleteIn, held_of, AddsHeld, SameHeld}
 use Rattle.druid_timeline.specs.Pieces.{Shown, ArePieces, cut}

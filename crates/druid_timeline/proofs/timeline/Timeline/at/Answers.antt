@@ -1,6 +1,6 @@
 use Rattle.std.proofs.Common.{List, Option, Some, None, MatchOption, ℕ, map, ap, sym, subst, Bor}
 use Rattle.druid_timeline.proofs.SweepLemmas.{Run}
-use Rattle.druid_segid.specs.Group.{Group}
+use Rattle.druid_segment_id.specs.Group.{Group}
 use Rattle.druid_timeline.specs.Holding.{Held, Serving}
 use Rattle.druid_timeline.specs.Pieces.{Shown, Shows, ArePieces, shown_at}
 use Rattle.druid_timeline.specs.Visible.{IsVisible, NothingVisible}

@@ -1,7 +1,7 @@
 use Rattle.std.proofs.Common.{◌∙◌, List, length, sym, ap, subst}
 use Rattle.std.specs.Map.{keys_of}
 use Rattle.std.proofs.lemmas.List.{length-map}
-use Rattle.druid_chunks.specs.Chunks.{Chunk}
+use Rattle.druid_timeline_chunks.specs.Chunks.{Chunk}
 use Rattle.druid_timeline.specs.Holding.{Held, Serving, AreGroupsOf}
 use Rattle.druid_timeline.proofs.WholeLemmas.{groups_held}
 use Rattle.druid_timeline.proofs.timeline.Timeline.chunk_count.Goals as goal

@@ -5,7 +5,7 @@ use Rattle.druid_timeline.specs.Chunks.{held_in}
 use Rattle.druid_timeline.specs.Holding.{Held, Serving, members_of}
 use Rattle.druid_timeline.specs.Pieces.{Shown, Reported, ArePieces, ArePiecesIn, ArePartitions, cut, shown_at, shown_of}
 use Rattle.druid_timeline.proofs.CutLemmas.{ArePiecesIn-cut}
-use Rattle.druid_chunks.proofs.EditLemmas.{if_ok_weaker}
+use Rattle.druid_timeline_chunks.proofs.EditLemmas.{if_ok_weaker}
 use Rattle.druid_timeline.proofs.LookupLemmas.{parts_held}
 use Rattle.druid_timeline.proofs.SweepLemmas.{Run}
 use Rattle.druid_timeline.proofs.timeline.Timeline.lookup.Goals as goal

@@ -1,10 +1,10 @@
 use Rattle.std.proofs.Common.{◌↔◌, ℕ, List, ap, sym, subst}
 use Rattle.std.specs.List.{Contains}
-use Rattle.druid_segid.specs.Group.{group_of}
-use Rattle.druid_members.specs.Members.{HoldsPlace}
-use Rattle.druid_chunks.specs.Chunks.{members_at}
+use Rattle.druid_segment_id.specs.Group.{group_of}
+use Rattle.druid_timeline_members.specs.Members.{HoldsPlace}
+use Rattle.druid_timeline_chunks.specs.Chunks.{members_at}
 use Rattle.druid_timeline.specs.Holding.{Held, Serving, IsHeld}
-use Rattle.druid_chunks.proofs.EditLemmas.{if_ok_weaker}
+use Rattle.druid_timeline_chunks.proofs.EditLemmas.{if_ok_weaker}
 use Rattle.druid_timeline.proofs.ChunkLemmas.{IsHeld-chunk}
 use Rattle.druid_timeline.proofs.timeline.Timeline.replicas.Goals as goal
 

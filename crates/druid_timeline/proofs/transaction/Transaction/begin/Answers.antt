@@ -1,6 +1,6 @@
 use Rattle.std.proofs.Common.{◌∙◌, List, map, sym, ap, subst}
 use Rattle.std.specs.Vec.{vec_capacity}
-use Rattle.druid_chunks.specs.Chunks.{Chunk}
+use Rattle.druid_timeline_chunks.specs.Chunks.{Chunk}
 use Rattle.druid_timeline.specs.Chunks.{held_in}
 use Rattle.druid_timeline.specs.Holding.{Serving, members_of}
 use Rattle.druid_timeline.specs.Pieces.{ArePieces, shown_at}

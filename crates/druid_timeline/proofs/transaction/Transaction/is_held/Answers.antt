@@ -1,8 +1,8 @@
 use Rattle.std.proofs.Common.{◌↔◌, List, refl, ap, subst}
 use Rattle.std.specs.Bool.{IsTrue}
-use Rattle.druid_segid.specs.Group.{group_of}
-use Rattle.druid_members.specs.Members.{HoldsPlace}
-use Rattle.druid_chunks.specs.Chunks.{Chunk, AreChunks, members_at}
+use Rattle.druid_segment_id.specs.Group.{group_of}
+use Rattle.druid_timeline_members.specs.Members.{HoldsPlace}
+use Rattle.druid_timeline_chunks.specs.Chunks.{Chunk, AreChunks, members_at}
 use Rattle.druid_timeline.specs.Holding.{Held, IsHeld}
 use Rattle.druid_timeline.specs.Transactions.{Edited}
 use Rattle.druid_timeline.proofs.ChunkLemmas.{holds_held}

@@ -1,5 +1,5 @@
 use Rattle.std.proofs.Common.{◌∙◌, List, map, sym, ap, subst}
-use Rattle.druid_chunks.specs.Chunks.{members_at}
+use Rattle.druid_timeline_chunks.specs.Chunks.{members_at}
 use Rattle.druid_timeline.specs.Chunks.{held_in}
 use Rattle.druid_timeline.specs.Pieces.{ArePieces, shown_at}
 use Rattle.druid_timeline.specs.Transactions.{Edited}

@@ -1,5 +1,0 @@
-use Rattle.druid_asked_text.proofs.BackLemmas.{asked_back}
-use Rattle.druid_asked_text.proofs.laws.asked_are_read_back.Goals as goal
-
-pub returns : goal.returns
-returns c = asked_back

@@ -1,5 +1,0 @@
-use Rattle.druid_changes.proofs.FollowLemmas.{delta_reaches}
-use Rattle.druid_changes.proofs.laws.deltas_reach_the_node.Goals as goal
-
-pub returns : goal.returns
-returns c = delta_reaches

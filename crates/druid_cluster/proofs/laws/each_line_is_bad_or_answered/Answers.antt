@@ -1,5 +1,0 @@
-use Rattle.druid_cluster.proofs.AnswerSome.{line_some}
-use Rattle.druid_cluster.proofs.laws.each_line_is_bad_or_answered.Goals as goal
-
-pub returns : goal.returns
-returns c = line_some

@@ -1,5 +1,0 @@
-use Rattle.druid_config.proofs.LimitLemmas.{within}
-use Rattle.druid_config.proofs.laws.configs_are_within_limits.Goals as goal
-
-pub returns : goal.returns
-returns c = within

@@ -1,7 +1,0 @@
-use Rattle.std.proofs.Common.{rules, ◌∙◌, option_map, map, ap, sym}
-use Rattle.druid_config.proofs.WordLemmas.{broker_had}
-use Rattle.druid_config.proofs.part.Part.has_broker.Goals as goal
-
-pub returns-in-Some : goal.returns-in-Some
-returns-in-Some c = broker_had c.args.self.now c.in-Some.words.items c.args.place c.have_broker.result
-    (sym c.self.view_is ∙ ap (λ words. option_map (λ ws. map (λ word. word.now) ws.items) words) c.in-Some.is) (search rules)

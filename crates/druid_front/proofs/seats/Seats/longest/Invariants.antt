@@ -1,5 +1,0 @@
-use Rattle.druid_front.proofs.SeatLemmas.{IsFound}
-use Rattle.druid_front.proofs.seats.Seats.longest.Given as goal
-
-abbrev pub invariant-loop-place : goal.invariant-loop-place
-invariant-loop-place l = IsFound l.self l.place l.found

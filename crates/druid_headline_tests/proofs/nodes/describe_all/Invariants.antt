@@ -1,6 +1,0 @@
-use Rattle.std.specs.List.{AllWithin}
-use Rattle.druid_shard.specs.Described.{IsDescribed}
-use Rattle.druid_headline_tests.proofs.nodes.describe_all.Given as goal
-
-abbrev pub invariant-loop-i : goal.invariant-loop-i
-invariant-loop-i l = AllWithin IsDescribed l.segments 0 l.i

@@ -1,5 +1,0 @@
-use Rattle.druid_incarnation.proofs.NumberFile.{one_number_lem}
-use Rattle.druid_incarnation.proofs.incarnation.one_number.Goals as goal
-
-pub returns : goal.returns
-returns c = one_number_lem

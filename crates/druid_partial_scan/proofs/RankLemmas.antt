@@ -1,0 +1,170 @@
+-- Codes of a dictionary are in the order of their values, so equal codes are equal values.
+use Rattle.std.proofs.Common.{◌≡◌, ◌∙◌, ℕ, zero, suc, ◌+◌, ◌<◌, ◌≤◌, List, [], ◌∷◌, length, get_or, false, Some, None, refl, sym, ap, subst, arith, String, Global, string_bytes, ◌⊎◌, inl, inr}
+use Rattle.std.specs.Prelude.{◌==◌, slice_get, slice_index_or}
+use Rattle.std.specs.List.{AllByRecursion}
+use Rattle.std.specs.List.Sorted.{IsStrictlySortedBy, IsNonDecreasingBy, IsPartitionPoint}
+use Rattle.std.specs.Ordering.{nat_cmp, is_eq, ordering_index, ordering_reverse}
+use Rattle.std.specs.declared.cmp.Ordering.{Ordering}
+use Rattle.std.specs.declared.cmp.Ordering.TheVariants.{Less, Equal, Greater}
+use Rattle.std.specs.Cmp.{IsTotalOrder, unsigned_ties}
+use Rattle.std.specs.Cmp.Lexicographic.{slice_cmp}
+use Rattle.std.proofs.lemmas.Cmp.{nat_list_cmp_total, tied_itself, ranked, by_ranked}
+use Rattle.std.proofs.lemmas.Map.Keys.{sorted_head, sorted_tail}
+use Rattle.std.proofs.lemmas.Map.Lookups.{exact_bytes}
+use Rattle.std.proofs.lemmas.Option.{slice_get-get_or}
+use Rattle.std.proofs.lemmas.List.{get_or-map, length-map}
+use Rattle.std.proofs.lemmas.List.Elements.{All-get_or}
+use Rattle.druid_base.proofs.OrderLemmas.{nat_cmp-lt, nat_cmp-gt}
+use Rattle.druid_filter.specs.Filters.{same_value}
+use Rattle.druid_segment_rows.specs.Rows.{Row, no_row, texts_of}
+use Rattle.druid_segment_rows.specs.Segment.{Segment, row_at}
+use Rattle.druid_segment_rows.specs.Columns.{column, value_at, IsDictionary, AreCodes}
+use Rattle.druid_partial.specs.Groups.{value_cmp}
+use Rattle.druid_partial_scan.specs.Places.{at_place}
+use Rattle.druid_partial_scan.specs.Cells.{Column, IsColumn}
+use Rattle.druid_partial_scan.specs.CodeFilters.{IsCodeOf}
+use Rattle.druid_partial_scan.proofs.CodeFilterLemmas.{value_tie}
+use Rattle.druid_partial_scan.proofs.RadixLemmas.{equal_is}
+
+above : (t : List ℕ) (ts : List (List ℕ)) (j : ℕ) (d : List ℕ) → AllByRecursion (λ y. slice_cmp nat_cmp t y ≡ Less) ts → j < length ts → slice_cmp nat_cmp t (get_or ts j d) ≡ Less
+above t [] j d all h = absurd (omega arith)
+above t (u ∷ ts) zero d all h = all.0
+above t (u ∷ ts) (suc j) d all h = above t ts j d all.1 (omega (arith, h))
+
+less_of : (ts : List (List ℕ)) (i j : ℕ) (d : List ℕ) → IsStrictlySortedBy (slice_cmp nat_cmp) ts → i < j → j < length ts → slice_cmp nat_cmp (get_or ts i d) (get_or ts j d) ≡ Less
+less_of [] i j d s h k = absurd (omega arith)
+less_of (t ∷ ts) i zero d s h k = absurd (omega arith)
+less_of (t ∷ ts) zero (suc j) d s h k = above t ts j d (sorted_head (slice_cmp nat_cmp) t ts s) (omega (arith, k))
+less_of (t ∷ ts) (suc i) (suc j) d s h k = less_of ts i j d (sorted_tail (slice_cmp nat_cmp) t ts s) (omega (arith, h)) (omega (arith, k))
+
+texts_rank : (ts : List (List ℕ)) (i j : ℕ) (d : List ℕ) → IsStrictlySortedBy (slice_cmp nat_cmp) ts → i < length ts → j < length ts → slice_cmp nat_cmp (get_or ts i d) (get_or ts j d) ≡ nat_cmp i j
+texts_rank ts i j d s p q =
+    by_ranked (i < j) (i ≡ j) (j < i) (nat_cmp i j) (ranked i j (nat_cmp i j) refl)
+    (λ o h. less_of ts i j d s h q ∙ sym o)
+    (λ o h. ap (λ k. slice_cmp nat_cmp (get_or ts i d) (get_or ts k d)) (sym h) ∙ tied_itself nat_list_cmp_total (get_or ts i d) ∙ sym o)
+    (λ o h. nat_list_cmp_total.antisymm (get_or ts i d) (get_or ts j d) ∙ ap ordering_reverse (less_of ts j i d s h p) ∙ sym o)
+
+some_at : (ts : List (List ℕ)) (k : ℕ) → k < length ts → slice_get ts k ≡ Some (get_or ts k [])
+some_at ts k h = slice_get-get_or ts k [] h
+
+pub next_rank : (i j : ℕ) → nat_cmp i j ≡ nat_cmp (suc i) (suc j)
+next_rank i j =
+    by_ranked (i < j) (i ≡ j) (j < i) (nat_cmp i j) (ranked i j (nat_cmp i j) refl)
+    (λ o h. o ∙ sym (nat_cmp-lt (suc i) (suc j) (omega (arith, h))))
+    (λ o h. o ∙ sym (equal_is (suc i) (suc j) (omega (arith, h))))
+    (λ o h. o ∙ sym (nat_cmp-gt (suc i) (suc j) (omega (arith, h))))
+
+-- values are in the order of their codes
+pub value_rank : (ts : List (List ℕ)) (a b : ℕ) → IsStrictlySortedBy (slice_cmp nat_cmp) ts → a ≤ length ts → b ≤ length ts → value_cmp (value_at ts a) (value_at ts b) ≡ nat_cmp a b
+value_rank ts zero zero s p q = refl
+value_rank ts zero (suc b) s p q = ap (value_cmp None) (some_at ts b (omega (arith, q))) ∙ sym (nat_cmp-lt zero (suc b) (omega arith))
+value_rank ts (suc a) zero s p q = ap (λ v. value_cmp v None) (some_at ts a (omega (arith, p))) ∙ sym (nat_cmp-gt (suc a) zero (omega arith))
+value_rank ts (suc a) (suc b) s p q =
+    ap (λ v. value_cmp v (value_at ts (suc b))) (some_at ts a (omega (arith, p)))
+    ∙ ap (value_cmp (Some (get_or ts a []))) (some_at ts b (omega (arith, q)))
+    ∙ texts_rank ts a b [] s (omega (arith, p)) (omega (arith, q)) ∙ next_rank a b
+
+-- and are the same where these are
+pub value_same_code : (ts : List (List ℕ)) (a b : ℕ) → IsStrictlySortedBy (slice_cmp nat_cmp) ts → a ≤ length ts → b ≤ length ts → same_value (value_at ts a) (value_at ts b) ≡ (a == b)
+value_same_code ts a b s p q =
+    sym (value_tie (value_at ts a) (value_at ts b)) ∙ ap is_eq (value_rank ts a b s p q) ∙ sym (unsigned_ties a b)
+
+-- ---- what a search by halving finds
+
+index_rises : (a b x : List ℕ) → slice_cmp nat_cmp a b ≡ Less → ordering_index (slice_cmp nat_cmp a x) ≤ ordering_index (slice_cmp nat_cmp b x)
+index_rises a b x less = by_order (slice_cmp nat_cmp a x) refl
+  where
+    o : IsTotalOrder (slice_cmp nat_cmp)
+    o = nat_list_cmp_total
+
+    last : slice_cmp nat_cmp x b ≡ Less → slice_cmp nat_cmp b x ≡ Greater
+    last h = o.antisymm b x ∙ ap ordering_reverse h
+
+    by_order : (r : Ordering) → slice_cmp nat_cmp a x ≡ r → ordering_index r ≤ ordering_index (slice_cmp nat_cmp b x)
+    by_order Less e = omega arith
+    by_order Equal e = let g = last (sym (o.congr a x b e) ∙ less) in rw g (omega arith)
+    by_order Greater e = let g = last (o.trans x a b (o.antisymm x a ∙ ap ordering_reverse e) less) in rw g (omega arith)
+
+pub searchable : (texts : List (String Global)) (x : String Global) → IsStrictlySortedBy (slice_cmp nat_cmp) (texts_of texts) → IsNonDecreasingBy (λ y. ordering_index (slice_cmp nat_cmp (string_bytes y) (string_bytes x))) texts
+searchable texts x s i j d h k = by_cases (i_or i j h)
+  where
+    i_or : (i j : ℕ) → i ≤ j → (i < j) ⊎ (i ≡ j)
+    i_or i j h = by_ranked (i < j) (i ≡ j) (j < i) (nat_cmp i j) (ranked i j (nat_cmp i j) refl) (λ o l. inl l) (λ o e. inr e) (λ o g. absurd (omega (arith, h, g)))
+
+    at : (m : ℕ) → m < length texts → get_or (texts_of texts) m (string_bytes d) ≡ string_bytes (get_or texts m d)
+    at m l = get_or-map string_bytes texts m d (string_bytes d) l
+
+    long : length (texts_of texts) ≡ length texts
+    long = length-map texts string_bytes
+
+    by_cases : (i < j) ⊎ (i ≡ j) → ordering_index (slice_cmp nat_cmp (string_bytes (get_or texts i d)) (string_bytes x)) ≤ ordering_index (slice_cmp nat_cmp (string_bytes (get_or texts j d)) (string_bytes x))
+    by_cases (inl l) =
+        let less = less_of (texts_of texts) i j (string_bytes d) s l (let e = long in omega (arith, e, k)) in
+        index_rises (string_bytes (get_or texts i d)) (string_bytes (get_or texts j d)) (string_bytes x)
+        (ap (λ t. slice_cmp nat_cmp t (string_bytes (get_or texts j d))) (sym (at i (omega (arith, l, k)))) ∙ ap (slice_cmp nat_cmp (get_or (texts_of texts) i (string_bytes d))) (sym (at j k)) ∙ less)
+    by_cases (inr e) = rw e (omega arith)
+
+-- the text that was found
+pub code_found : (texts : List (String Global)) (x : String Global) (k : ℕ) → IsStrictlySortedBy (slice_cmp nat_cmp) (texts_of texts) → k < length texts → slice_cmp nat_cmp (string_bytes (get_or texts k x)) (string_bytes x) ≡ Equal → IsCodeOf (texts_of texts) (Some (string_bytes x)) (Some (k + 1))
+code_found texts x k s h e code p =
+    let long : length (texts_of texts) ≡ length texts = length-map texts string_bytes in
+    let there : value_at (texts_of texts) (suc k) ≡ Some (string_bytes x) =
+    slice_get-get_or (texts_of texts) k (string_bytes x) (omega (arith, h, long))
+    ∙ ap (λ t. Some t) (get_or-map string_bytes texts k x (string_bytes x) h ∙ exact_bytes _ _ e) in
+    let next : suc k ≡ k + 1 = omega arith in
+    ap (same_value (value_at (texts_of texts) code)) (sym there)
+    ∙ value_same_code (texts_of texts) code (suc k) s p (omega (arith, h, long)) ∙ ap (λ n. code == n) next
+
+-- a text that is not there
+pub code_absent : (texts : List (String Global)) (x : String Global) (i : ℕ) → IsPartitionPoint (λ y. slice_cmp nat_cmp (string_bytes y) (string_bytes x) ≡ Less) (λ y. slice_cmp nat_cmp (string_bytes y) (string_bytes x) ≡ Greater) texts i → IsCodeOf (texts_of texts) (Some (string_bytes x)) None
+code_absent texts x i part zero p = refl
+code_absent texts x i part (suc k) p =
+    let long : length (texts_of texts) ≡ length texts = length-map texts string_bytes in
+    let h : k < length texts = omega (arith, p, long) in
+    let value : value_at (texts_of texts) (suc k) ≡ Some (string_bytes (get_or texts k x)) =
+    slice_get-get_or (texts_of texts) k (string_bytes x) (omega (arith, h, long))
+    ∙ ap (λ t. Some t) (get_or-map string_bytes texts k x (string_bytes x) h) in
+    ap (λ v. same_value v (Some (string_bytes x))) value ∙ sym (value_tie (Some (string_bytes (get_or texts k x))) (Some (string_bytes x)))
+    ∙ by_side k h (k_or k i)
+  where
+    k_or : (k i : ℕ) → (k < i) ⊎ (i ≤ k)
+    k_or k i = by_ranked (k < i) (k ≡ i) (i < k) (nat_cmp k i) (ranked k i (nat_cmp k i) refl) (λ o l. inl l) (λ o e. inr (omega (arith, e))) (λ o g. inr (omega (arith, g)))
+
+    by_side : (k : ℕ) → k < length texts → (k < i) ⊎ (i ≤ k) → is_eq (slice_cmp nat_cmp (string_bytes (get_or texts k x)) (string_bytes x)) ≡ false
+    by_side k h (inl l) = ap is_eq (part.0 k x (omega arith) l)
+    by_side k h (inr g) = ap is_eq (part.1 k x g h)
+
+-- ---- a dimension's codes
+
+pub code_here : (segment : Segment) (place row : ℕ) (ts : List (List ℕ)) (codes : List ℕ) → AreCodes ts (column place segment.rows) codes → row < length segment.rows → (row < length codes) × (value_at ts (get_or codes row 0) ≡ slice_index_or (row_at segment row).dimensions place None) × (get_or codes row 0 ≤ length ts)
+code_here segment place row ts codes are h =
+    let wide : length codes ≡ length segment.rows = sym (length-map codes (value_at ts)) ∙ ap length are.stand ∙ length-map segment.rows (λ (r : Row). slice_index_or r.dimensions place None) in
+    let inside : row < length codes = omega (arith, h, wide) in
+    let value : value_at ts (get_or codes row 0) ≡ slice_index_or (row_at segment row).dimensions place None =
+    sym (get_or-map (value_at ts) codes row 0 None inside) ∙ ap (λ l. get_or l row None) are.stand
+    ∙ get_or-map (λ (r : Row). slice_index_or r.dimensions place None) segment.rows row no_row None h in
+    (inside, value, All-get_or (λ code. code ≤ length ts) codes row 0 inside are.bounded)
+
+pub row_code : (segment : Segment) (place row : ℕ) (ts : List (List ℕ)) (codes : List ℕ) → AreCodes ts (column place segment.rows) codes → row < length segment.rows → slice_get codes row ≡ Some (get_or codes row 0)
+row_code segment place row ts codes are h = slice_get-get_or codes row 0 (code_here segment place row ts codes are h).0
+
+pub row_value : (segment : Segment) (place row : ℕ) (ts : List (List ℕ)) (codes : List ℕ) → AreCodes ts (column place segment.rows) codes → row < length segment.rows → value_at ts (get_or codes row 0) ≡ slice_index_or (row_at segment row).dimensions place None
+row_value segment place row ts codes are h = (code_here segment place row ts codes are h).1
+
+pub row_bounded : (segment : Segment) (place row : ℕ) (ts : List (List ℕ)) (codes : List ℕ) → AreCodes ts (column place segment.rows) codes → row < length segment.rows → get_or codes row 0 ≤ length ts
+row_bounded segment place row ts codes are h = (code_here segment place row ts codes are h).2
+
+-- the column of a dimension
+pub coded_column : (segment : Segment) (place size : ℕ) (ts : List (List ℕ)) (codes : List ℕ) (c : Column) → IsDictionary (column place segment.rows) ts → AreCodes ts (column place segment.rows) codes → size ≡ length ts + 1 → c ≡ record { size = size; codes = Some codes } → IsColumn segment (Some place) c
+coded_column segment place size ts codes c dictionary are wide is =
+    let P : Column → Type 0 = λ d. IsColumn segment (Some place) d in
+    subst P (sym is) (record {
+      has = λ row h. record {
+        there = (code_here segment place row ts codes are h).0;
+        below = let b = row_bounded segment place row ts codes are h in omega (arith, b, wide);
+      };
+      order = λ a b p q.
+          ap (λ v. value_cmp v (at_place (row_at segment b).dimensions (Some place))) (sym (row_value segment place a ts codes are p))
+          ∙ ap (value_cmp (value_at ts (get_or codes a 0))) (sym (row_value segment place b ts codes are q))
+          ∙ value_rank ts (get_or codes a 0) (get_or codes b 0) dictionary.rising (row_bounded segment place a ts codes are p) (row_bounded segment place b ts codes are q);
+    })

@@ -1,5 +1,0 @@
-use Rattle.druid_published.proofs.FoldLemmas.{fold_names}
-use Rattle.druid_published.proofs.laws.folds_keep_names.Goals as goal
-
-pub returns : goal.returns
-returns c = fold_names

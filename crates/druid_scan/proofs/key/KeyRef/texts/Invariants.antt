@@ -1,7 +1,0 @@
-use Rattle.std.proofs.Common.{◌≡◌, take}
-use Rattle.druid_rows.specs.Rows.{nullable_texts_of}
-use Rattle.druid_scan.proofs.KeyLemmas.{borrowed}
-use Rattle.druid_scan.proofs.key.KeyRef.texts.Given as goal
-
-abbrev pub invariant-loop-value : goal.invariant-loop-value
-invariant-loop-value l = nullable_texts_of l.texts.items ≡ borrowed (take l.value-index l.value-items)

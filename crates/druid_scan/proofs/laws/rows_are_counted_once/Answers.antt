@@ -1,5 +1,0 @@
-use Rattle.druid_scan.proofs.OnceLemmas.{rows_once}
-use Rattle.druid_scan.proofs.laws.rows_are_counted_once.Goals as goal
-
-pub returns : goal.returns
-returns c = rows_once

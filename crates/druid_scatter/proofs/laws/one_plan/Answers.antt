@@ -1,5 +1,0 @@
-use Rattle.druid_scatter.proofs.LawLemmas as law
-use Rattle.druid_scatter.proofs.laws.one_plan.Goals as goal
-
-pub returns : goal.returns
-returns c = law.one_plan

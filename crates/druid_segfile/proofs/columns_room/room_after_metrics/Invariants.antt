@@ -1,8 +1,0 @@
-use Rattle.std.proofs.Common.{◌≡◌, ◌+◌, length, take}
-use Rattle.std.specs.List.{flat_map, range_with_len}
-use Rattle.druid_segfile.specs.ColumnSpelling.{metric, numbers_of}
-use Rattle.druid_segfile.proofs.columns_room.room_after_metrics.Given as goal
-
-abbrev pub invariant-loop-place : goal.invariant-loop-place
-invariant-loop-place l =
-    l.room + length (flat_map (λ place. metric (numbers_of l.segment.rows place)) (take l.place (range_with_len 0 (length l.segment.fields.metrics)))) ≡ l.initial.room

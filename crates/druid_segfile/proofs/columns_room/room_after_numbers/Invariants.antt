@@ -1,8 +1,0 @@
-use Rattle.std.proofs.Common.{◌≡◌, ◌+◌, take}
-use Rattle.std.specs.List.{sum_by}
-use Rattle.druid_rows.specs.Segment.{number_value_length}
-use Rattle.druid_segfile.proofs.columns_room.room_after_numbers.Given as goal
-
-abbrev pub invariant-loop-row : goal.invariant-loop-row
-invariant-loop-row l =
-    l.room + sum_by number_value_length (take l.row l.numbers) ≡ l.initial.room

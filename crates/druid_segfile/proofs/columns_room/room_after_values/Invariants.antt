@@ -1,8 +1,0 @@
-use Rattle.std.proofs.Common.{◌≡◌, ◌+◌, take}
-use Rattle.std.specs.List.{sum_by}
-use Rattle.druid_segfile.proofs.ColumnRoomLemmas.{value_length}
-use Rattle.druid_segfile.proofs.columns_room.room_after_values.Given as goal
-
-abbrev pub invariant-loop-text : goal.invariant-loop-text
-invariant-loop-text l =
-    l.room + sum_by value_length (take l.text-index l.texts) ≡ l.initial.room

@@ -1,7 +1,0 @@
-use Rattle.std.proofs.Common.{◌≡◌, take}
-use Rattle.druid_rows.specs.Rows.{texts_of}
-use Rattle.druid_segfile.specs.Borrowed.{texts_borrowed}
-use Rattle.druid_segfile.proofs.fields.strings.Given as goal
-
-abbrev pub invariant-loop-name : goal.invariant-loop-name
-invariant-loop-name l = texts_of l.strings.items ≡ texts_borrowed (take l.name-index l.names)

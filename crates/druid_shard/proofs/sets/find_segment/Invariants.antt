@@ -1,9 +1,0 @@
-use Rattle.std.proofs.Common.{◌-◌}
-use Rattle.druid_shard.proofs.PlaceLemmas.{IsLeft}
-use Rattle.druid_shard.proofs.sets.find_segment.Given as goal
-
-abbrev pub invariant-loop-low : goal.invariant-loop-low
-invariant-loop-low l = IsLeft l.segments l.id l.low l.high
-
-abbrev pub decreases-loop-low : goal.decreases-loop-low
-decreases-loop-low l = l.high - l.low

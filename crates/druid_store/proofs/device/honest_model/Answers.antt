@@ -1,5 +1,0 @@
-use Rattle.druid_store.proofs.Model.{honest_model_lem}
-use Rattle.druid_store.proofs.device.honest_model.Goals as goal
-
-pub returns : goal.returns
-returns c = honest_model_lem

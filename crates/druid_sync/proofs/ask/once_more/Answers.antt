@@ -1,8 +1,0 @@
-use Rattle.druid_sync.proofs.AskLemmas.{given_twice, given_thrice}
-use Rattle.druid_sync.proofs.ask.once_more.Goals as goal
-
-pub returns-in-Once : goal.returns-in-Once
-returns-in-Once c values is = given_twice c.args.given values c.in-Once._first c.args.value.now c.in-Once.is is
-
-pub returns-in-Twice : goal.returns-in-Twice
-returns-in-Twice c values is = given_thrice c.args.given values c.args.value.now c.in-Twice.is is

@@ -1,5 +1,0 @@
-use Rattle.druid_wire.proofs.OnceLemmas.{request_faults}
-use Rattle.druid_wire.proofs.laws.requests_have_no_fault.Goals as goal
-
-pub returns : goal.returns
-returns c = request_faults

@@ -1,5 +1,0 @@
-use Rattle.druid_wire.proofs.OnceLemmas.{response_faults}
-use Rattle.druid_wire.proofs.laws.responses_have_no_fault.Goals as goal
-
-pub returns : goal.returns
-returns c = response_faults

@@ -1,5 +1,0 @@
-use Rattle.druid_world.proofs.NextLemmas.{marks_rise}
-use Rattle.druid_world.proofs.laws.marks_never_fall.Goals as goal
-
-pub returns : goal.returns
-returns c = marks_rise
