@@ -11,7 +11,7 @@ use druid_partial_scan::{partial_of, partial_of_slices, partial_over};
 use druid_partial_text::{partial_text, result_text, shortfall_text};
 use druid_query::Query;
 use druid_segment_descriptor::Descriptor;
-use druid_segment_rows::{Row, RowFault, Schema, Segment, SegmentBuilder};
+use druid_segment_rows::{Numbers, Row, RowFault, Schema, Segment, SegmentBuilder};
 use druid_time::Instant;
 use http::Method;
 use std::alloc::Global;
@@ -124,6 +124,41 @@ fn builders(rt: &impl Abort, alloc: Global) {
         "then SegmentBuilder::finish",
         builder.finish().len() == 4,
     );
+}
+
+fn push_number(rt: &impl Abort, alloc: Global, numbers: &mut Numbers, value: Option<i64>) {
+    begin(rt, alloc);
+    let reported = end(rt, alloc, numbers.push(value));
+    assert_call(
+        rt,
+        "Numbers::push",
+        match reported {
+            Ok(()) => true,
+            Err(_) => numbers.push(value).is_ok(),
+        },
+    );
+}
+
+// A metric of three rows.
+fn numbers(rt: &impl Abort, alloc: Global) {
+    begin(rt, alloc);
+    let made = end(rt, alloc, Numbers::with_capacity(alloc, 3));
+    assert_call(
+        rt,
+        "Numbers::with_capacity",
+        match made {
+            Ok(numbers) => numbers.len() == 0,
+            Err(_) => true,
+        },
+    );
+    let mut numbers = Numbers::with_capacity(alloc, 0).expect(rt, "memory");
+    push_number(rt, alloc, &mut numbers, Some(7));
+    push_number(rt, alloc, &mut numbers, None);
+    push_number(rt, alloc, &mut numbers, Some(-5));
+    if numbers.len() == 3 {
+        let values = (numbers.get(0), numbers.get(1), numbers.get(2));
+        assert_call(rt, "then Numbers::get", values == (Some(7), None, Some(-5)));
+    }
 }
 
 // A request and a response with one body, of which nothing else is after it.
@@ -293,6 +328,7 @@ fn results(rt: &impl Abort, alloc: Global, query: &Query, segment: &Segment) {
 #[test]
 fn of_segments(rt: HostRuntime) {
     segments(&rt, rt.alloc());
+    numbers(&rt, rt.alloc());
     builders(&rt, rt.alloc());
 }
 

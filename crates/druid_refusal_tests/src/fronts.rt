@@ -26,7 +26,7 @@ fn opens(rt: &impl Abort, alloc: Global) {
     let opened = end(rt, alloc, open(alloc, 3));
     assert_call(
         rt,
-        "front::open",
+        "serve_front::open",
         match &opened {
             Ok((_, places, _)) => places.len() == 3,
             Err(AllocError) => true,

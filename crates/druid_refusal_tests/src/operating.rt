@@ -139,7 +139,7 @@ fn logs(rt: &impl Abort, alloc: Global) {
     let opened = end(rt, alloc, open(alloc, Level::Info));
     assert_call(
         rt,
-        "log::open",
+        "telemetry_log::open",
         match &opened {
             Ok((_, lines)) => lines.is_some(),
             Err(AllocError) => true,

@@ -108,7 +108,7 @@ fn open_and_publish<R: Abort + Wait + Drop + Copy, J: Publication>(
             show_again(rt, alloc, &mut publisher);
             read(rt, alloc, &mut view, 2);
         }
-        Err(fault) => assert_call(rt, "published::open", fault == PublishFault::Memory),
+        Err(fault) => assert_call(rt, "inventory_views::open", fault == PublishFault::Memory),
     }
 }
 

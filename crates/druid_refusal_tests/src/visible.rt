@@ -125,13 +125,13 @@ fn in_transaction(
     };
     assert_call(
         rt,
-        "chunks::Transaction::add",
+        "timeline_chunks::Transaction::add",
         edit.chunks().holds(descriptor.id(), 0) == is,
     );
     let chunks = edit.roll_back();
     assert_call(
         rt,
-        "chunks::Transaction::remove",
+        "timeline_chunks::Transaction::remove",
         chunks.holds(descriptor.id(), 0) == was,
     );
     chunks
