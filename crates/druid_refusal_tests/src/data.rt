@@ -69,7 +69,12 @@ fn segments(rt: &impl Abort, alloc: Global) {
             rt,
             "Segment::row",
             match &row {
-                Ok(row) => row.dimensions().len() == 1,
+                Ok(row) => {
+                    row.time() == segment.time(0)
+                        && row.dimensions().len() == 1
+                        && row.metrics().len() == 1
+                        && row.metrics()[0] == Some(5)
+                }
                 Err(_) => segment.len() == 2,
             },
         );
