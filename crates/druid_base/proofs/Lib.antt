@@ -7,3 +7,4 @@ pub mod EachLemmas
 pub mod OrderLemmas
 pub mod NumberLemmas
 pub mod DistinctLemmas
+pub mod ClauseLemmas

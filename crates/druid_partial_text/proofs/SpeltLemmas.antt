@@ -168,7 +168,3 @@ are_numbers (a ∷ all) (x ∷ numbers) same each =
     counted_from : AreNumbersFor (map (λ b. b.kind) all) numbers → (place : ℕ) → slice_get (map (λ b. b.kind) (a ∷ all)) place ≡ Some Count → IsSome (slice_index_or (x ∷ numbers) place None)
     counted_from rest zero is = each zero a x (omega arith) refl refl (same_Some a.kind Count is)
     counted_from rest (suc place) is = rest.counted place is
-
--- what holds of what is there
-pub if_some : {A : Type 0} (P : A → Type 0) (o : Option A) (x : A) → o ≡ Some x → IfSome o P → P x
-if_some P o x is h = subst (λ (p : Option _). IfSome p P) is h

@@ -25,13 +25,9 @@ use Rattle.druid_segment_id.proofs.IdentifierLemmas.{identifier_text-beyond}
 use Rattle.druid_segment_id.proofs.NameLemmas.{is_version-true, is_version-to}
 use Rattle.druid_segment_id.proofs.ParsedLemmas.{any_underscore, no_underscore}
 use Rattle.druid_base.proofs.NumberLemmas.{number_at-found, number_at-to}
+use Rattle.druid_base.proofs.OptionLemmas.{chained}
 
 -- ---- steps
-
--- a step that gave a value, and what followed
-and_next : {A B : Type 0} (o : Option A) (f : A → Option B) (y : B) → option_and_then f o ≡ Some y → (x : A) × (o ≡ Some x) × (f x ≡ Some y)
-and_next None f y h = absurd (cc)
-and_next (Some x) f y h = (x, refl, h)
 
 some_next : {A B : Type 0} (o : Option A) (e : Refusal) (f : A → Result B Refusal) (y : B) → (ok_or o e >>= f) ≡ Ok y → (x : A) × (o ≡ Some x) × (f x ≡ Ok y)
 some_next None e f y h = absurd (cc)
@@ -118,7 +114,7 @@ beyond-made front rest =
 rest_at-to : (source text rest : List ℕ) → rest_at source text ≡ Some rest → text ≡ source ++ (95 ∷ rest)
 unfolding rest_at
 rest_at-to source text rest h =
-    let both = and_next (beyond source text) (beyond (codes "_")) rest h in
+    let both = chained (beyond (codes "_")) (beyond source text) rest h in
     beyond-to source text both.0 both.1 ∙ ap (λ r. source ++ r) (beyond-to (codes "_") both.0 rest both.2)
 
 rest_at-made : (source rest : List ℕ) → rest_at source (source ++ (95 ∷ rest)) ≡ Some rest
@@ -195,8 +191,8 @@ extent_between-to s t e h =
 interval_at-to : (rest : List ℕ) (e : Extent) → 50 < length rest → interval_at rest ≡ Some e → Printed rest e
 unfolding interval_at
 interval_at-to rest e long h =
-    let first = and_next (printed_at (take 24 rest)) (λ s. option_and_then (λ t. extent_between s t) (printed_at (take 24 (drop 25 rest)))) e h in
-    let second = and_next (printed_at (take 24 (drop 25 rest))) (λ t. extent_between first.0 t) e first.2 in
+    let first = chained (λ s. option_and_then (λ t. extent_between s t) (printed_at (take 24 (drop 25 rest)))) (printed_at (take 24 rest)) e h in
+    let second = chained (λ t. extent_between first.0 t) (printed_at (take 24 (drop 25 rest))) e first.2 in
     let between = extent_between-to first.0 second.0 e second.2 in
     let start = printed_at-to (take 24 rest) first.0 first.1 in
     let end = printed_at-to (take 24 (drop 25 rest)) second.0 second.1 in

@@ -3,7 +3,8 @@ use Rattle.std.specs.Arc.{arc_value}
 use Rattle.std.specs.List.{slice_get}
 use Rattle.std.proofs.lemmas.Result.{on_err_weaker, on_ok_weaker}
 use Rattle.druid_base.proofs.ListLemmas.{map-copied}
-use Rattle.druid_timeline_chunks.proofs.EditLemmas.{always_err, was_ok}
+use Rattle.druid_timeline_chunks.proofs.EditLemmas.{was_ok}
+use Rattle.druid_base.proofs.ClauseLemmas.{always_err}
 use Rattle.druid_segment_descriptor.specs.Described.{Described}
 use Rattle.druid_segment_descriptor.specs.Replay.{replay_from}
 use Rattle.druid_inventory.specs.Entry.{Entry}

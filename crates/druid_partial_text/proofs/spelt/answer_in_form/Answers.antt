@@ -6,7 +6,8 @@ use Rattle.druid_partial.specs.Partials.{kinds_of, IsGroupFor}
 use Rattle.druid_partial_text.specs.Answers.{IsAnswerOf}
 use Rattle.druid_partial_text.specs.Spelt.{SpellsAnswer}
 use Rattle.druid_partial_text.proofs.MadeLemmas.{reported_valid}
-use Rattle.druid_partial_text.proofs.SpeltLemmas.{answer_is, if_some}
+use Rattle.druid_partial_text.proofs.SpeltLemmas.{answer_is}
+use Rattle.druid_base.proofs.ClauseLemmas.{if_some}
 use Rattle.druid_partial_text.proofs.spelt.answer_in_form.Goals as goal
 
 pub new-requires : goal.new-requires

@@ -3,7 +3,8 @@ use Rattle.json.specs.Token.{begin_array}
 use Rattle.druid_partial.specs.Groups.{Group}
 use Rattle.druid_partial_text.specs.Read.{group_at}
 use Rattle.druid_partial_text.specs.Spelt.{Spells}
-use Rattle.druid_partial_text.proofs.SpeltLemmas.{spells_row, if_some}
+use Rattle.druid_partial_text.proofs.SpeltLemmas.{spells_row}
+use Rattle.druid_base.proofs.ClauseLemmas.{if_some}
 use Rattle.druid_partial_text.proofs.spelt.group_in.Goals as goal
 
 pub returns-clause-spells : goal.returns-clause-spells

@@ -6,7 +6,8 @@ use Rattle.druid_partial.specs.Partials.{IsGroupFor}
 use Rattle.druid_partial_text.specs.Borrowed.{HasWords}
 use Rattle.druid_partial_text.specs.Read.{group_at}
 use Rattle.druid_partial_text.specs.Spelt.{Spells, SpellsItems}
-use Rattle.druid_partial_text.proofs.SpeltLemmas.{items_more, if_some}
+use Rattle.druid_partial_text.proofs.SpeltLemmas.{items_more}
+use Rattle.druid_base.proofs.ClauseLemmas.{if_some}
 use Rattle.druid_partial_text.proofs.spelt.groups_in.Goals as goal
 
 pub loop-preserved : goal.loop-preserved

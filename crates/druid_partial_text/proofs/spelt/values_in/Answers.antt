@@ -2,7 +2,8 @@ use Rattle.std.proofs.Common.{rules, List, Option, String, Global, subst, sym}
 use Rattle.druid_filter.specs.Values.{nullable_texts_of}
 use Rattle.druid_base.specs.Fields.{text_or_null}
 use Rattle.druid_partial_text.specs.Spelt.{SpellsItems}
-use Rattle.druid_partial_text.proofs.SpeltLemmas.{texts_more, if_some}
+use Rattle.druid_partial_text.proofs.SpeltLemmas.{texts_more}
+use Rattle.druid_base.proofs.ClauseLemmas.{if_some}
 use Rattle.druid_partial_text.proofs.spelt.values_in.Goals as goal
 
 pub loop-preserved : goal.loop-preserved

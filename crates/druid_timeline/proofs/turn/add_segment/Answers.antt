@@ -3,7 +3,7 @@ use Rattle.std.specs.Bool.{IsTrue}
 use Rattle.druid_segment_id.specs.Group.{Group, group_of}
 use Rattle.druid_timeline_members.specs.Members.{member_of}
 use Rattle.druid_timeline_chunks.specs.Chunks.{members_at}
-use Rattle.druid_timeline_chunks.proofs.EditLemmas.{always_err}
+use Rattle.druid_base.proofs.ClauseLemmas.{always_err}
 use Rattle.druid_timeline.specs.Chunks.{held_in}
 use Rattle.druid_timeline.specs.Edited.{ArePiecesThen, HasOthers}
 use Rattle.druid_timeline.specs.Exchanges.{settled}

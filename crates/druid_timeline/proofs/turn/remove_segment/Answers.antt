@@ -2,7 +2,7 @@ use Rattle.std.proofs.Common.{◌↔◌, ◌∙◌, List, map, sym, ap, subst}
 use Rattle.std.specs.Bool.{IsTrue}
 use Rattle.druid_segment_id.specs.Group.{group_of}
 use Rattle.druid_timeline_chunks.specs.Chunks.{members_at}
-use Rattle.druid_timeline_chunks.proofs.EditLemmas.{always_err}
+use Rattle.druid_base.proofs.ClauseLemmas.{always_err}
 use Rattle.druid_timeline.specs.Chunks.{held_in}
 use Rattle.druid_timeline.specs.Exchanges.{settled}
 use Rattle.druid_timeline.specs.Holding.{IsCompleteIn, SameHeld}

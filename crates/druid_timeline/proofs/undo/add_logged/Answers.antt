@@ -4,7 +4,7 @@ use Rattle.std.specs.Vec.{vec_capacity}
 use Rattle.druid_segment_id.specs.Group.{Group, group_of}
 use Rattle.druid_timeline_members.specs.Members.{Member, member_of, IsComplete, Adds}
 use Rattle.druid_timeline_chunks.specs.Chunks.{Chunk, AreChunks, members_at}
-use Rattle.druid_timeline_chunks.proofs.EditLemmas.{always_err}
+use Rattle.druid_base.proofs.ClauseLemmas.{always_err}
 use Rattle.druid_timeline.specs.Chunks.{held_in}
 use Rattle.druid_timeline.specs.Edited.{ArePiecesThen, HasOthers}
 use Rattle.druid_timeline.specs.Exchanges.{settled}
