@@ -11,66 +11,53 @@ use Rattle.druid_partial.specs.Partials.{Partial, kinds_of}
 use Rattle.druid_link.specs.Links.{Came}
 use Rattle.druid_broker_scatter.specs.declared.fault.GatherFault.{GatherFault}
 use Rattle.druid_broker_scatter.specs.Plan.{Pair, place_cmp}
-use Rattle.druid_broker_scatter.specs.Gathered.{Exchange, Gives, AreMade, AreAsked, IsGathered}
+use Rattle.druid_broker_scatter.specs.Gathered.{Exchange, AreMade, AreAsked, IsGathered}
 use Rattle.druid_partial.specs.Answer.{Answer}
 use Rattle.druid_broker_scatter.specs.Rounds.{AreLinked}
-use Rattle.druid_broker_scatter.specs.Waiting.{Waiting, State, AreOrdered, IsState, Goes, AsksOn, MayLackMemory, pieces_of}
-use Rattle.druid_broker_scatter.proofs.StepLemmas.{AreBelow, IsOver, start, next_round, missing_are, missing_were_asked, are_asked}
+use Rattle.druid_broker_scatter.specs.Waiting.{Waiting, State, AreBelow, AreOrdered, IsState, Goes, AsksOn, MayLackMemory, pieces_of}
+use Rattle.druid_broker_scatter.proofs.AskedLemmas.{IsOver, are_asked, missing_are, missing_were_asked, no_asks, start}
 use Rattle.druid_broker_scatter.proofs.MadeLemmas.{made_append, none_made}
-use Rattle.druid_broker_scatter.proofs.AskedLemmas.{no_asks}
 
 -- what led to a state
 abbrev pub Leading : {L : Type 0} → (L → List ℕ → Came → L → Type 0) → (List ℕ → List ℕ) → Query → List Pair → State → ℕ → State → List L → List L → Type 0
 Leading step order query pairs first round state old new =
     (exchanges : List Exchange) × AreMade step query exchanges old new
-    × ((waits : List Waiting) → AreOrdered order pairs waits → IsState query waits first 0 0 [] → IsState query waits state round 0 exchanges)
+    × ((waits : List Waiting) → AreOrdered order pairs waits → IsState query waits first 0 [] → IsState query waits state round exchanges)
 
 pub leading_none : {L : Type 0} (step : L → List ℕ → Came → L → Type 0) (order : List ℕ → List ℕ) (query : Query) (pairs : List Pair) (first : State) (links : List L) → Leading step order query pairs first 0 first links links
 leading_none step order query pairs first links = ([], none_made step query links, λ waits o s. s)
 
-below : (order : List ℕ → List ℕ) (count : ℕ) (pairs : List Pair) (waits : List Waiting) → AreLinked count pairs → AreOrdered order pairs waits → AreBelow count waits
-below order count pairs waits linked o = record {
-  each = λ w n c in_it.
-      let is = o.each w c in
-      let of = All-contains (λ p. All (λ node. node < count) p.nodes) pairs is.pair linked is.in_plan in
-      All-contains (λ node. node < count) is.pair.nodes n of (Contains-permutation w.order is.pair.nodes n (IsPermutation-sym is.pair.nodes w.order is.moved) in_it);
-}
+-- each node in an order has its link
+pub below : (order : List ℕ → List ℕ) (count : ℕ) (pairs : List Pair) (waits : List Waiting) → AreLinked count pairs → AreOrdered order pairs waits → AreBelow count waits
+below order count pairs waits linked o w node c in_it =
+    let is = o.each w c in
+    let of = All-contains (λ p. All (λ node. node < count) p.nodes) pairs is.pair linked is.in_plan in
+    All-contains (λ node. node < count) is.pair.nodes node of (Contains-permutation w.order is.pair.nodes node (IsPermutation-sym is.pair.nodes w.order is.moved) in_it)
 
-pub leading_more : {L : Type 0} (step : L → List ℕ → Came → L → Type 0) (order : List ℕ → List ℕ) (query : Query) (pairs : List Pair) (first state after : State) (round : ℕ) (old mid new : List L) → AreLinked (length old) pairs
-    → Leading step order query pairs first round state old mid → (more : List Exchange) × AreMade step query more mid new × Goes query round 0 (length mid) state after more
+pub leading_more : {L : Type 0} (step : L → List ℕ → Came → L → Type 0) (order : List ℕ → List ℕ) (query : Query) (pairs : List Pair) (first state after : State) (round : ℕ) (old mid new : List L)
+    → Leading step order query pairs first round state old mid → (more : List Exchange) × AreMade step query more mid new × Goes query round state after more
     → Leading step order query pairs first (round + 1) after old new
-leading_more step order query pairs first state after round old mid new linked l m = (
-  l.0 ++ m.0,
-  made_append step query l.0 m.0 old mid new l.1 m.1,
-  λ waits o s.
-      let next = m.2 order pairs waits l.0 o (l.2 waits o s) in
-      let count : length mid ≡ length old = l.1.count in
-      record {
-        holds = next_round (Gives query) waits after.waiting round (length mid) (l.0 ++ m.0) (below order (length mid) pairs waits (subst (λ (n : ℕ). AreLinked n pairs) (sym count) linked) o) next.holds;
-        rows = next.rows;
-        reported = next.reported;
-        merged = next.merged;
-      },
-)
+leading_more step order query pairs first state after round old mid new l m =
+    (l.0 ++ m.0, made_append step query l.0 m.0 old mid new l.1 m.1, λ waits o s. m.2 order pairs waits l.0 o (l.2 waits o s))
 
 -- nothing was asked yet
 opened : (query : Query) (waits : List Waiting) (partial : Partial) → IsStrictlySortedBy place_cmp (pieces_of waits) → IsResult (kinds_of query) [] partial.groups
-    → IsState query waits (record { waiting = waits; partial = partial }) 0 0 []
-opened query waits partial s r = record { holds = start (Gives query) waits s; rows = []; reported = refl; merged = r }
+    → IsState query waits (record { waiting = waits; partial = partial }) 0 []
+opened query waits partial s r = record { holds = start query waits s; rows = []; reported = refl; merged = r }
 
 -- what was asked up to a state
 asked_so_far : (query : Query) (order : List ℕ → List ℕ) (pairs : List Pair) (waits : List Waiting) (state : State) (round : ℕ) (exchanges : List Exchange) → AreOrdered order pairs waits
-    → IsState query waits state round 0 exchanges → AreAsked order query pairs exchanges
+    → IsState query waits state round exchanges → AreAsked order query pairs exchanges
 asked_so_far query order pairs waits state round exchanges o s =
-    are_asked query (Gives query) order pairs waits state.waiting round 0 exchanges o s.holds (record { each = s.holds.in_turn })
+    are_asked query order pairs waits round exchanges o s.holds.asked
 
 gathered : (query : Query) (order : List ℕ → List ℕ) (pairs : List Pair) (waits : List Waiting) (state : State) (round : ℕ) (exchanges : List Exchange) → AreOrdered order pairs waits
-    → IsState query waits state round 0 exchanges → IsOver state.waiting round → IsGathered order query pairs exchanges (pieces_of state.waiting) state.partial.groups
+    → IsState query waits state round exchanges → IsOver state.waiting round → IsGathered order query pairs exchanges (pieces_of state.waiting) state.partial.groups
 gathered query order pairs waits state round exchanges o s over = record {
   asked = asked_so_far query order pairs waits state round exchanges o s;
   given_once = s.holds.given_once;
-  missing_is = missing_are (Gives query) order pairs waits state.waiting round exchanges o s.holds;
-  missing_asked = missing_were_asked (Gives query) order pairs waits state.waiting round exchanges o s.holds over;
+  missing_is = missing_are query order pairs waits state.waiting round exchanges o s.holds;
+  missing_asked = missing_were_asked query order pairs waits state.waiting round exchanges o s.holds over;
   ordered = s.holds.ordered;
   rows = s.rows;
   reported = s.reported;
@@ -79,8 +66,8 @@ gathered query order pairs waits state round exchanges o s over = record {
 
 -- the state before the first round
 begun : (query : Query) (order : List ℕ → List ℕ) (pairs : List Pair) (waits : List Waiting) (partial : Partial) (first : State) → first ≡ record { waiting = waits; partial = partial } → AreOrdered order pairs waits
-    → IsResult (kinds_of query) [] partial.groups → IsState query waits first 0 0 []
-begun query order pairs waits partial first e o none = subst (λ (x : State). IsState query waits x 0 0 []) (sym e) (opened query waits partial o.sorted none)
+    → IsResult (kinds_of query) [] partial.groups → IsState query waits first 0 []
+begun query order pairs waits partial first e o none = subst (λ (x : State). IsState query waits x 0 []) (sym e) (opened query waits partial o.sorted none)
 
 pub gathered_all : {L : Type 0} (step : L → List ℕ → Came → L → Type 0) (order : List ℕ → List ℕ) (query : Query) (pairs : List Pair) (waits seen : List Waiting) (partial : Partial) (first state : State) (rounds round : ℕ) (old new : List L) (r : Result Answer GatherFault)
     → first ≡ record { waiting = waits; partial = partial } → AreOrdered order pairs waits → IsResult (kinds_of query) [] partial.groups → seen ≡ waits

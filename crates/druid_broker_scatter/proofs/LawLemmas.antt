@@ -28,7 +28,7 @@ use Rattle.druid_query.specs.Asked.{Asked, LiesInside, Overlap}
 use Rattle.druid_query.specs.SubQuery.{IsAsked}
 use Rattle.druid_broker_scatter.specs.Plan.{Pair, asked_of, place_cmp, IsWanted, AreReplicas, IsPlanOf}
 use Rattle.druid_broker_scatter.proofs.PlanLemmas.{each_less, less_each, runs_beyond, same_id}
-use Rattle.druid_broker_scatter.proofs.StepLemmas.{place_cmp-total}
+use Rattle.druid_broker_scatter.proofs.AskedLemmas.{place_cmp-total}
 
 -- ---- one list
 

@@ -1,5 +1,4 @@
 pub mod RoundLemmas
-pub mod StepLemmas
 pub mod PlanLemmas
 pub mod WaitLemmas
 pub mod TellLemmas

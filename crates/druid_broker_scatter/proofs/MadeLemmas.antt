@@ -1,92 +1,98 @@
 -- The exchanges of rounds lead each link from one state to another.
-use Rattle.std.proofs.Common.{◌≡◌, ◌∙◌, inl, inr, ℕ, zero, suc, ◌+◌, ◌<◌, List, [], ◌∷◌, ◌++◌, length, map, get_or, Option, Some, None, option_map, refl, sym, ap, subst, arith}
-use Rattle.std.specs.List.{slice_get, range_with_len}
-use Rattle.std.proofs.lemmas.List.FromFn.{map-range_with_len_more}
+use Rattle.std.proofs.Common.{◌≡◌, ◌≢◌, ◌∙◌, ◌⊎◌, inl, inr, ℕ, zero, suc, ◌+◌, ◌<◌, ◌≤◌, List, [], ◌∷◌, ◌++◌, length, get_or, set, Contains, Some, refl, sym, ap, subst, arith}
+use Rattle.std.specs.List.{slice_get}
+use Rattle.std.proofs.lemmas.List.{length-append}
 use Rattle.std.proofs.lemmas.Option.{same_Some, slice_get_within, slice_get-get_or}
-use Rattle.druid_query.specs.Asked.{Asked}
+use Rattle.std.proofs.Math.ListN.{length-set}
+use Rattle.druid_base.proofs.ListLemmas.{Contains-here}
+use Rattle.druid_base.proofs.MemberLemmas.{Contains-later}
 use Rattle.druid_query.specs.Query.{Query}
 use Rattle.druid_link.specs.Links.{Came}
 use Rattle.druid_http_wire.specs.Written.{request_text}
 use Rattle.druid_broker_scatter.specs.Gathered.{Exchange, Leads, AreMade, request_for}
-use Rattle.druid_broker_scatter.specs.Rounds.{AnswersOne, AreAnswered}
-use Rattle.druid_broker_scatter.specs.Waiting.{sub_if, sub_request, made_from}
+use Rattle.druid_broker_scatter.specs.Waiting.{AreLed}
+use Rattle.druid_broker_scatter.proofs.AskedLemmas.{get_append}
 
-pub one_more_sub : {X : Type 0} (f : ℕ → X) (k : ℕ) (old new : List X) (x : X) → new ≡ old ++ x ∷ [] → x ≡ f k → old ≡ map f (range_with_len 0 k) → new ≡ map f (range_with_len 0 (k + 1))
-one_more_sub f k old new x e is so_far =
-    e ∙ ap (λ xs. xs ++ x ∷ []) so_far ∙ ap (λ y. map f (range_with_len 0 k) ++ y ∷ []) is ∙ sym (map-range_with_len_more f 0 k k (omega arith))
-
--- ---- one round
-
-none_same : {L : Type 0} (step : L → List ℕ → Came → L → Type 0) (query : Query) (wanted : List Asked) (a b : L) → AnswersOne step a (option_map sub_request (sub_if query wanted)) None b → b ≡ a
-none_same step query [] a b h = h.1
-none_same step query (x ∷ xs) a b h = absurd h
-
-some_step : {L : Type 0} (step : L → List ℕ → Came → L → Type 0) (query : Query) (wanted : List Asked) (came : Came) (a b : L) → AnswersOne step a (option_map sub_request (sub_if query wanted)) (Some came) b
-    → step a (request_text (request_for query wanted)) came b
-some_step step query [] came a b h = let e : Some came ≡ None = h.0 in absurd (cc)
-some_step step query (x ∷ xs) came a b h = h
-
--- those after a node leave its link alone
-later : {L : Type 0} (step : L → List ℕ → Came → L → Type 0) (query : Query) (wanted : ℕ → List Asked) (came : List (Option Came)) (m j : ℕ) (a : L) → j < m → Leads step query j (made_from wanted m came) a a
-later step query wanted [] m j a h = refl
-later step query wanted (None ∷ more) m j a h = later step query wanted more (m + 1) j a (omega arith)
-later step query wanted (Some c ∷ more) m j a h = inr (λ e. omega arith, later step query wanted more (m + 1) j a (omega arith))
-
--- what links that were asked were led by
-abbrev LedFrom : {L : Type 0} → (L → List ℕ → Came → L → Type 0) → Query → (ℕ → List Asked) → ℕ → List L → List (Option Came) → List L → Type 0
-LedFrom {L} step query wanted k old came new =
-    (length new ≡ length old) × ((i : ℕ) (a b : L) → slice_get old i ≡ Some a → slice_get new i ≡ Some b → Leads step query (k + i) (made_from wanted k came) a b)
-
-leads : {L : Type 0} (step : L → List ℕ → Came → L → Type 0) (query : Query) (wanted : ℕ → List Asked) (n k : ℕ) (old : List L) (came : List (Option Came)) (new : List L)
-    → AreAnswered step old (map (option_map sub_request) (map (λ i. sub_if query (wanted i)) (range_with_len k n))) came new → LedFrom step query wanted k old came new
-leads step query wanted zero k [] [] [] h = (refl, λ i a b e f. absurd (cc))
-leads step query wanted zero k [] [] (b ∷ new) h = absurd h
-leads step query wanted zero k [] (c ∷ came) new h = absurd h
-leads step query wanted zero k (a ∷ old) came new h = absurd h
-leads step query wanted (suc n) k [] came new h = absurd h
-leads step query wanted (suc n) k (a ∷ old) [] new h = absurd h
-leads step query wanted (suc n) k (a ∷ old) (c ∷ came) [] h = absurd h
-leads {L} step query wanted (suc n) k (x ∷ old) (None ∷ came) (y ∷ new) h =
-    let rest = leads step query wanted n (k + 1) old came new h.1 in
-    (ap suc rest.0, each rest)
-  where
-    each : LedFrom step query wanted (k + 1) old came new → (i : ℕ) (a b : L) → slice_get (x ∷ old) i ≡ Some a → slice_get (y ∷ new) i ≡ Some b → Leads step query (k + i) (made_from wanted (k + 1) came) a b
-    each rest zero a b e f =
-        let same : a ≡ b = sym (same_Some x a e) ∙ sym (none_same step query (wanted k) x y h.0) ∙ same_Some y b f in
-        subst (λ (z : L). Leads step query (k + 0) (made_from wanted (k + 1) came) a z) same (later step query wanted came (k + 1) (k + 0) a (omega arith))
-    each rest (suc i) a b e f =
-        let at : (k + 1) + i ≡ k + suc i = omega arith in
-        subst (λ (j : ℕ). Leads step query j (made_from wanted (k + 1) came) a b) at (rest.1 i a b e f)
-leads {L} step query wanted (suc n) k (x ∷ old) (Some c ∷ came) (y ∷ new) h =
-    let rest = leads step query wanted n (k + 1) old came new h.1 in
-    (ap suc rest.0, each rest)
-  where
-    each : LedFrom step query wanted (k + 1) old came new → (i : ℕ) (a b : L) → slice_get (x ∷ old) i ≡ Some a → slice_get (y ∷ new) i ≡ Some b → Leads step query (k + i) (made_from wanted k (Some c ∷ came)) a b
-    each rest zero a b e f =
-        let done = some_step step query (wanted k) c x y h.0 in
-        let moved : step a (request_text (request_for query (wanted k))) c b =
-        subst (λ (z : L). step z (request_text (request_for query (wanted k))) c b) (same_Some x a e)
-        (subst (λ (z : L). step x (request_text (request_for query (wanted k))) c z) (same_Some y b f) done) in
-        inl (omega arith, b, moved, later step query wanted came (k + 1) (k + 0) b (omega arith))
-    each rest (suc i) a b e f =
-        let at : (k + 1) + i ≡ k + suc i = omega arith in
-        inr (λ same. omega arith, subst (λ (j : ℕ). Leads step query j (made_from wanted (k + 1) came) a b) at (rest.1 i a b e f))
-
-pub round_made : {L : Type 0} (step : L → List ℕ → Came → L → Type 0) (query : Query) (wanted : ℕ → List Asked) (n : ℕ) (old : List L) (came : List (Option Came)) (new : List L)
-    → AreAnswered step old (map (option_map sub_request) (map (λ i. sub_if query (wanted i)) (range_with_len 0 n))) came new → AreMade step query (made_from wanted 0 came) old new
-round_made {L} step query wanted n old came new h =
-    let led = leads step query wanted n 0 old came new h in
-    record { count = led.0; each = λ node a b e f. let at : 0 + node ≡ node = omega arith in subst (λ (j : ℕ). Leads step query j (made_from wanted 0 came) a b) at (led.1 node a b e f) }
-
--- ---- round after round
-
-pub none_made : {L : Type 0} (step : L → List ℕ → Came → L → Type 0) (query : Query) (links : List L) → AreMade step query [] links links
-none_made step query links = record { count = refl; each = λ node a b e f. same_Some a b (sym e ∙ f) }
+-- exchanges with other nodes leave a link alone
+others : {L : Type 0} (step : L → List ℕ → Came → L → Type 0) (query : Query) (node : ℕ) (made : List Exchange) (a : L) → ((e : Exchange) → Contains made e → e.node ≢ node) → Leads step query node made a a
+others step query node [] a apart = refl
+others step query node (e ∷ made) a apart = inr (apart e (Contains-here e made), others step query node made a (λ x c. apart x (Contains-later e made x c)))
 
 leads_append : {L : Type 0} (step : L → List ℕ → Came → L → Type 0) (query : Query) (node : ℕ) (es fs : List Exchange) (a b c : L) → Leads step query node es a b → Leads step query node fs b c → Leads step query node (es ++ fs) a c
 leads_append {L} step query node [] fs a b c h k = subst (λ (x : L). Leads step query node fs x c) (sym h) k
 leads_append step query node (e ∷ es) fs a b c (inl h) k = inl (h.0, h.1, h.2, leads_append step query node es fs h.1 b c h.3 k)
 leads_append step query node (e ∷ es) fs a b c (inr h) k = inr (h.0, leads_append step query node es fs a b c h.1 k)
+
+-- ---- one round
+
+pub none_led : {L : Type 0} (step : L → List ℕ → Came → L → Type 0) (query : Query) (first : ℕ) (links : List L) → AreLed step query first [] links links
+none_led step query first links = record { count = refl; each = λ i a b e f. same_Some a b (sym e ∙ f) }
+
+-- a link that was written, and the others
+written_at : {L : Type 0} (old : List L) (place : ℕ) (a b : L) → a ≡ get_or old place a → place < length old → (i : ℕ) (x y : L) → slice_get old i ≡ Some x → slice_get (set old place b) i ≡ Some y
+    → ((i ≡ place) × (x ≡ a) × (y ≡ b)) ⊎ ((i ≢ place) × (x ≡ y))
+written_at [] place a b is within i x y e f = absurd (omega arith)
+written_at (z ∷ old) zero a b is within zero x y e f = inl (refl, sym (same_Some z x e) ∙ sym is, sym (same_Some b y f))
+written_at (z ∷ old) zero a b is within (suc i) x y e f = inr (λ same. omega arith, same_Some x y (sym e ∙ f))
+written_at (z ∷ old) (suc place) a b is within zero x y e f = inr (λ same. omega arith, same_Some x y (sym e ∙ f))
+written_at (z ∷ old) (suc place) a b is within (suc i) x y e f = elim (written_at old place a b is (omega arith) i x y e f) [
+  | inl here ↦ inl (ap suc here.0, here.1, here.2)
+  | inr other ↦ inr (λ same. other.0 (omega arith), other.1)
+]
+
+-- an exchange, over the link of its node
+pub one_led : {L : Type 0} (step : L → List ℕ → Came → L → Type 0) (query : Query) (first place : ℕ) (e : Exchange) (old : List L) (a b : L) → e.node ≡ first + place → a ≡ get_or old place a → place < length old
+    → step a (request_text (request_for query e.asked)) e.came b → AreLed step query first (e ∷ []) old (set old place b)
+one_led {L} step query first place e old a b node is within stepped = record {
+  count = length-set old place b;
+  each = λ i x y at there. elim (written_at old place a b is within i x y at there) [
+    | inl here ↦ inl (
+      node ∙ ap (λ (n : ℕ). first + n) (sym here.0),
+      b,
+      subst (λ (z : L). step z (request_text (request_for query e.asked)) e.came b) (sym here.1) stepped,
+      sym here.2,
+    )
+    | inr other ↦ inr (λ same. other.0 (omega (arith, node, same)), other.1)
+  ];
+}
+
+-- the links of both halves
+pub both_led : {L : Type 0} (step : L → List ℕ → Came → L → Type 0) (query : Query) (first next : ℕ) (made made' : List Exchange) (front new back new' : List L) → next ≡ first + length front
+    → ((e : Exchange) → Contains made e → e.node < next) → ((e : Exchange) → Contains made' e → next ≤ e.node) → AreLed step query first made front new → AreLed step query next made' back new'
+    → AreLed step query first (made ++ made') (front ++ back) (new ++ new')
+both_led {L} step query first next made made' front new back new' cut below above h k = record {
+  count = length-append new new' ∙ (λ i. h.count i + k.count i) ∙ sym (length-append front back);
+  each = λ i a b at there. elim (get_append front back i a at) [
+    | inl here ↦ elim (get_append new new' i b there) [
+      | inl also ↦
+          let inside = slice_get_within front i a here in
+          leads_append step query (first + i) made made' a b b (h.each i a b here also)
+          (others step query (first + i) made' b (λ e c same. let past = above e c in omega (arith, inside, cut, past, same)))
+      | inr beyond ↦ let inside = slice_get_within front i a here in absurd (omega (arith, inside, beyond.1, h.count))
+    ]
+    | inr there' ↦ elim (get_append new new' i b there) [
+      | inl early ↦ let inside = slice_get_within new i b early in absurd (omega (arith, inside, there'.1, h.count))
+      | inr also ↦
+          let one : also.0 ≡ there'.0 = omega (arith, also.1, there'.1, h.count) in
+          let node : next + there'.0 ≡ first + i = omega (arith, cut, there'.1) in
+          leads_append step query (first + i) made made' a a b
+          (others step query (first + i) made a (λ e c same. let early = below e c in omega (arith, early, node, same)))
+          (subst (λ (n : ℕ). Leads step query n made' a b) node (k.each there'.0 a b there'.2 (subst (λ (n : ℕ). slice_get new' n ≡ Some b) one also.2)))
+    ]
+  ];
+}
+
+-- link k is that of node k
+pub made_of_led : {L : Type 0} (step : L → List ℕ → Came → L → Type 0) (query : Query) (made : List Exchange) (old new : List L) → AreLed step query 0 made old new → AreMade step query made old new
+made_of_led step query made old new h = record {
+  count = h.count;
+  each = λ node a b e f. let at : 0 + node ≡ node = omega arith in subst (λ (n : ℕ). Leads step query n made a b) at (h.each node a b e f);
+}
+
+-- ---- round after round
+
+pub none_made : {L : Type 0} (step : L → List ℕ → Came → L → Type 0) (query : Query) (links : List L) → AreMade step query [] links links
+none_made step query links = made_of_led step query [] links links (none_led step query 0 links)
 
 pub made_append : {L : Type 0} (step : L → List ℕ → Came → L → Type 0) (query : Query) (es fs : List Exchange) (old mid new : List L) → AreMade step query es old mid → AreMade step query fs mid new → AreMade step query (es ++ fs) old new
 made_append step query es fs old mid new h k = record {

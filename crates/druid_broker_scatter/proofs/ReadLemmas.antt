@@ -1,12 +1,16 @@
 -- What was read of a round's answers: whose they are, and what they tell in all.
-use Rattle.std.proofs.Common.{◌≡◌, ◌∙◌, ◌⊎◌, inl, inr, ℕ, zero, suc, ◌+◌, List, [], ◌∷◌, ◌++◌, length, map, get_or, set, Any, IsSome, IsSomeAnd, Contains, Option, option_map, Some, None, Result, Ok, Err, OnErr, append_assoc, refl, sym, ap, subst, arith}
-use Rattle.std.specs.List.{slice_get, range_with_len}
+use Rattle.std.proofs.Common.{◌≡◌, ◌∙◌, ◌⊎◌, ◌==◌, inl, inr, ℕ, zero, suc, ◌+◌, ◌<◌, ◌≤◌, Bool, true, false, List, [], ◌∷◌, ◌++◌, length, map, get_or, set, All, Any, IsSome, Contains, Option, Some, None, Result, Ok, Err, OnErr, append_assoc, refl, sym, ap, subst, arith}
+use Rattle.std.specs.List.Sorted.{IsStrictlyIncreasing}
 use Rattle.std.specs.Option.{IfSome, IfNone}
 use Rattle.std.specs.Result.{IfOk}
 use Rattle.std.proofs.lemmas.Bool.{false≢true}
-use Rattle.std.proofs.lemmas.List.{append-nil, length-append, map-append, get_or_append_left, get_or-append-add}
+use Rattle.std.proofs.lemmas.Bool.Decides.{Decides-eqb}
+use Rattle.std.proofs.lemmas.List.{append-nil, get_or-map, length-append, length-map, map-append, get_or_append_left, get_or-append-add}
+use Rattle.std.proofs.lemmas.List.Elements.{Contains-append_left, Contains-append_right, Contains-get_or}
+use Rattle.std.proofs.lemmas.List.Kept.{AllPairs-from_increasing}
 use Rattle.std.proofs.lemmas.Option.{same_Some}
-use Rattle.druid_base.proofs.MemberLemmas.{Contains-cons, Contains-later, Contains-nil}
+use Rattle.druid_base.proofs.ListLemmas.{Contains-here, IsStrictlyIncreasing-first, IsStrictlyIncreasing-tail}
+use Rattle.druid_base.proofs.MemberLemmas.{Contains-cons, Contains-later, Contains-map_back, Contains-nil}
 use Rattle.druid_query.specs.Asked.{Asked}
 use Rattle.druid_query.specs.Query.{Query}
 use Rattle.druid_query.specs.SubQuery.{SubQuery}
@@ -15,122 +19,83 @@ use Rattle.druid_partial.specs.Groups.{Group, IsMerge, IsResult}
 use Rattle.druid_partial.specs.Partials.{Partial, IsPartial, IsPartialFor, kinds_of}
 use Rattle.druid_partial.proofs.GroupLemmas.{merge_of_results}
 use Rattle.druid_link.specs.Links.{Came}
-use Rattle.druid_broker_scatter.specs.Gathered.{Exchange, Answers, IsLost, TellAll}
-use Rattle.druid_broker_scatter.specs.Rounds.{AnswersOne, AreAnswered}
-use Rattle.druid_broker_scatter.specs.Waiting.{Found, TellsPlaces, IsRead, AreRead, TellsIf, Reads, ReadsOne, MayLackMemory, sub_if, sub_request, exchange_of, made_from}
-use Rattle.druid_broker_scatter.proofs.RoundLemmas.{answered_both}
+use Rattle.druid_http_wire.specs.Written.{request_text}
+use Rattle.druid_broker_scatter.specs.Gathered.{Exchange, Answers, IsLost, TellAll, request_for}
+use Rattle.druid_broker_scatter.specs.Waiting.{Ask, AreRead, AreSent, BothRead, Found, HaveLinks, IsRead, MayLackMemory, Missed, Reads, TellsIf, TellsPlaces, ask_of, exchange_of, missed_of, sub_request}
+use Rattle.druid_broker_scatter.proofs.MadeLemmas.{both_led, none_led, one_led}
 use Rattle.druid_broker_scatter.proofs.StateLemmas.{tells_itself}
+use Rattle.druid_broker_scatter.proofs.WaitLemmas.{head_missed, tail_missed}
 
 -- ---- of the exchanges of a round
 
--- the exchange was read: it is lost, or it is an answer, which misses what stands at these places
-abbrev pub WasRead : Query → Exchange → Option Found → List Group → Type 0
-WasRead query e f rows =
-    ((f ≡ None) × IsLost query e × (rows ≡ []))
-    ⊎ ((found : Found) × (missing : List Asked) × (f ≡ Some found) × Answers query e missing rows × TellsPlaces found missing)
+-- all of them tell these rows
+pub read_tells : (query : Query) (made : List Exchange) (missed : List Missed) (rows : List Group) → AreRead query made missed rows → TellAll query made rows
+read_tells query [] [] rows h = h
+read_tells query [] (m ∷ missed) rows h = absurd h
+read_tells query (e ∷ made) [] rows h = absurd h
+read_tells query (e ∷ made) (m ∷ missed) rows h = one m.1 h.3 (read_tells query made missed h.1 h.4)
+  where
+    one : (found : Option Found) → IsRead query e found h.0 → TellAll query made h.1 → TellAll query (e ∷ made) rows
+    one None lost rest = inr (lost.0, subst (TellAll query made) (sym (h.5 ∙ ap (λ (rows : List Group). rows ++ h.1) lost.1)) rest)
+    one (Some found) answer rest = inl (answer.0, h.0, h.1, answer.1, rest, h.5)
 
-was_read : (query : Query) (node : ℕ) (asked : List Asked) (came : Came) (f : Option Found) (rows : List Group) → IsRead (sub_if query asked) (Some came) f rows
-    → WasRead query (record { node = node; asked = asked; came = came }) f rows
-was_read query node [] came f rows h = absurd h
-was_read query node (a ∷ more) came None rows h = inl (refl, h.0 node, h.1)
-was_read query node (a ∷ more) came (Some found) rows h = inr (found, h.0, refl, h.1 node, h.2)
+-- they are with the same nodes
+pub read_nodes : (query : Query) (made : List Exchange) (missed : List Missed) (rows : List Group) → AreRead query made missed rows → map (λ (m : Missed). m.0) missed ≡ map (λ (ask : Ask). ask.0) (map ask_of made)
+read_nodes query [] [] rows h = refl
+read_nodes query [] (m ∷ missed) rows h = absurd h
+read_nodes query (e ∷ made) [] rows h = absurd h
+read_nodes query (e ∷ made) (m ∷ missed) rows h = λ i. h.2 i ∷ read_nodes query made missed h.1 h.4 i
 
-not_read : (query : Query) (asked : List Asked) (f : Option Found) (rows : List Group) → IsRead (sub_if query asked) None f rows → (f ≡ None) × (rows ≡ [])
-not_read query [] f rows h = h
-not_read query (a ∷ more) f rows h = absurd h
-
--- what was read of a round from this node on
-abbrev pub RoundRead : Query → (ℕ → List Asked) → ℕ → ℕ → List (Option Came) → List (Option Found) → List Group → Type 0
-RoundRead query wanted n k came found rows = AreRead (map (λ i. sub_if query (wanted i)) (range_with_len k n)) came found rows
-
--- all its exchanges tell these rows
-pub read_tells : (query : Query) (wanted : ℕ → List Asked) (n k : ℕ) (came : List (Option Came)) (found : List (Option Found)) (rows : List Group) → RoundRead query wanted n k came found rows
-    → TellAll query (made_from wanted k came) rows
-read_tells query wanted zero k [] [] rows h = h
-read_tells query wanted zero k [] (f ∷ found) rows h = absurd h
-read_tells query wanted zero k (c ∷ came) found rows h = absurd h
-read_tells query wanted (suc n) k [] found rows h = absurd h
-read_tells query wanted (suc n) k (c ∷ came) [] rows h = absurd h
-read_tells query wanted (suc n) k (None ∷ came) (f ∷ found) rows h =
-    let none = not_read query (wanted k) f h.0 h.2 in
-    subst (TellAll query (made_from wanted (k + 1) came)) (sym (h.4 ∙ ap (λ (one : List Group). one ++ h.1) none.1)) (read_tells query wanted n (k + 1) came found h.1 h.3)
-read_tells query wanted (suc n) k (Some c ∷ came) (f ∷ found) rows h =
-    let rest = read_tells query wanted n (k + 1) came found h.1 h.3 in
-    elim (was_read query k (wanted k) c f h.0 h.2) [
-      | inl lost ↦ inr (lost.1, subst (TellAll query (made_from wanted (k + 1) came)) (sym (h.4 ∙ ap (λ (one : List Group). one ++ h.1) lost.2)) rest)
-      | inr answer ↦ inl (answer.1, h.0, h.1, answer.3, rest, h.4)
-    ]
-
--- where an exchange was read
-abbrev pub ReadAt : Query → ℕ → List (Option Found) → Exchange → Type 0
-ReadAt query k found e = (i : ℕ) × (f : Option Found) × (rows : List Group) × (e.node ≡ k + i) × (slice_get found i ≡ Some f) × WasRead query e f rows
-
-later_read : (query : Query) (k : ℕ) (f : Option Found) (found : List (Option Found)) (e : Exchange) → ReadAt query (k + 1) found e → ReadAt query k (f ∷ found) e
-later_read query k f found e r = let node = r.3 in (suc r.0, r.1, r.2, omega arith, r.4, r.5)
-
-pub read_at : (query : Query) (wanted : ℕ → List Asked) (n k : ℕ) (came : List (Option Came)) (found : List (Option Found)) (rows : List Group) → RoundRead query wanted n k came found rows
-    → (e : Exchange) → Contains (made_from wanted k came) e → ReadAt query k found e
-read_at query wanted n k [] found rows h e c = absurd (Contains-nil e c)
-read_at query wanted zero k (x ∷ came) found rows h e c = absurd h
-read_at query wanted (suc n) k (x ∷ came) [] rows h e c = absurd h
-read_at query wanted (suc n) k (None ∷ came) (f ∷ found) rows h e c = later_read query k f found e (read_at query wanted n (k + 1) came found h.1 h.3 e c)
-read_at query wanted (suc n) k (Some x ∷ came) (f ∷ found) rows h e c = elim (Contains-cons (record { node = k; asked = wanted k; came = x }) (made_from wanted (k + 1) came) e c) [
-  | inl same ↦
-      let at : k ≡ k + 0 = omega arith in
-      let node : e.node ≡ k + 0 = ap (λ (y : Exchange). y.node) (sym same) ∙ at in
-      (0, f, h.0, node, refl, subst (λ (y : Exchange). WasRead query y f h.0) same (was_read query k (wanted k) x f h.0 h.2))
-  | inr there ↦ later_read query k f found e (read_at query wanted n (k + 1) came found h.1 h.3 e there)
+-- what one of them was read as
+pub read_at : (query : Query) (made : List Exchange) (missed : List Missed) (rows : List Group) → AreRead query made missed rows → IsStrictlyIncreasing (map (λ (ask : Ask). ask.0) (map ask_of made))
+    → (e : Exchange) → Contains made e → (one : List Group) × IsRead query e (missed_of missed e.node) one
+read_at query [] missed rows h up e c = absurd (Contains-nil e c)
+read_at query (x ∷ made) [] rows h up e c = absurd h
+read_at query (x ∷ made) (m ∷ missed) rows h up e c = elim (Contains-cons x made e c) [
+  | inl same ↦ (
+    h.0,
+    subst (λ (f : Option Found). IsRead query e f h.0) (sym (head_missed m missed e.node (h.2 ∙ ap (λ (y : Exchange). y.node) same))) (subst (λ (y : Exchange). IsRead query y m.1 h.0) same h.3),
+  )
+  | inr there ↦
+      let r = read_at query made missed h.1 h.4 (IsStrictlyIncreasing-tail x.node _ up) e there in
+      let in_nodes = Contains-map_back (λ (ask : Ask). ask.0) (map ask_of made) (ask_of e) (Contains-map_back ask_of made e there) in
+      let above = IsStrictlyIncreasing-first x.node _ e.node up in_nodes in
+      (r.0, subst (λ (f : Option Found). IsRead query e f r.0) (sym (tail_missed m missed e.node (λ same. omega (arith, h.2, above, same)))) r.1)
 ]
 
--- the answer that misses what stands at these places
-abbrev pub AnsweredAt : Query → (ℕ → List Asked) → ℕ → List (Option Came) → ℕ → Found → Type 0
-AnsweredAt query wanted k came node found =
-    (e : Exchange) × (missing : List Asked) × (rows : List Group) × Contains (made_from wanted k came) e × (e.node ≡ node) × Answers query e missing rows × TellsPlaces found missing
+-- the answer of the node that misses what stands at these places
+abbrev pub AnsweredBy : Query → List Exchange → ℕ → Found → Type 0
+AnsweredBy query made node found =
+    (e : Exchange) × (missing : List Asked) × (one : List Group) × Contains made e × (e.node ≡ node) × Answers query e missing one × TellsPlaces found missing
 
-pub answered_at : (query : Query) (wanted : ℕ → List Asked) (n k : ℕ) (came : List (Option Came)) (found : List (Option Found)) (rows : List Group) → RoundRead query wanted n k came found rows
-    → (i : ℕ) (g : Found) → slice_get found i ≡ Some (Some g) → AnsweredAt query wanted k came (k + i) g
-answered_at query wanted n k came [] rows h i g e = absurd (cc)
-answered_at query wanted zero k [] (f ∷ found) rows h i g e = absurd h
-answered_at query wanted zero k (x ∷ came) (f ∷ found) rows h i g e = absurd h
-answered_at query wanted (suc n) k [] (f ∷ found) rows h i g e = absurd h
-answered_at query wanted (suc n) k (None ∷ came) (f ∷ found) rows h zero g e =
-    let none = not_read query (wanted k) f h.0 h.2 in
-    let some : f ≡ Some g = same_Some f (Some g) e in
-    absurd (differ f g none.0 some)
+pub answered_by : (query : Query) (made : List Exchange) (missed : List Missed) (rows : List Group) → AreRead query made missed rows → (node : ℕ) (found : Found) → missed_of missed node ≡ Some found
+    → AnsweredBy query made node found
+answered_by query [] [] rows h node found is = absurd (cc)
+answered_by query [] (m ∷ missed) rows h node found is = absurd h
+answered_by query (e ∷ made) [] rows h node found is = absurd h
+answered_by query (e ∷ made) (m ∷ missed) rows h node found is = at (m.0 == node) refl (answered_by query made missed h.1 h.4 node found)
   where
-    differ : (f : Option Found) (g : Found) → f ≡ None → f ≡ Some g → ⊥
-    differ f g e d = cc
-answered_at query wanted (suc n) k (Some x ∷ came) (f ∷ found) rows h zero g e =
-    let some : f ≡ Some g = same_Some f (Some g) e in
-    let one : Exchange = record { node = k; asked = wanted k; came = x } in
-    elim (was_read query k (wanted k) x f h.0 h.2) [
-      | inl lost ↦ absurd (differ f g lost.0 some)
-      | inr answer ↦
-          let same : answer.0 ≡ g = same_Some answer.0 g (sym answer.2 ∙ some) in
-          (one, answer.1, h.0, (0, omega arith, refl), omega arith, answer.3, subst (λ (q : Found). TellsPlaces q answer.1) same answer.4)
-    ]
-  where
-    differ : (f : Option Found) (g : Found) → f ≡ None → f ≡ Some g → ⊥
-    differ f g e d = cc
-answered_at query wanted (suc n) k (None ∷ came) (f ∷ found) rows h (suc i) g e =
-    let r = answered_at query wanted n (k + 1) came found h.1 h.3 i g e in
-    let node = r.4 in
-    (r.0, r.1, r.2, r.3, omega arith, r.5, r.6)
-answered_at query wanted (suc n) k (Some x ∷ came) (f ∷ found) rows h (suc i) g e =
-    let r = answered_at query wanted n (k + 1) came found h.1 h.3 i g e in
-    let node = r.4 in
-    (r.0, r.1, r.2, Contains-later (record { node = k; asked = wanted k; came = x }) (made_from wanted (k + 1) came) r.0 r.3, omega arith, r.5, r.6)
+    here : (f : Option Found) → f ≡ Some found → IsRead query e f h.0 → (missing : List Asked) × Answers query e missing h.0 × TellsPlaces found missing
+    here None same r = absurd (cc)
+    here (Some g) same r = (r.0, r.1, subst (λ (f : Found). TellsPlaces f r.0) (same_Some g found same) r.2)
+
+    at : (b : Bool) → (m.0 == node) ≡ b → (missed_of missed node ≡ Some found → AnsweredBy query made node found) → AnsweredBy query (e ∷ made) node found
+    at true b rest =
+        let same = (Decides-eqb m.0 node).0 b in
+        let r = here m.1 (sym (head_missed m missed node same) ∙ is) h.3 in
+        (e, r.0, h.0, Contains-here e made, sym h.2 ∙ same, r.1, r.2)
+    at false b rest =
+        let r = rest (sym (tail_missed m missed node (λ same. false≢true (sym b ∙ (Decides-eqb m.0 node).1 same))) ∙ is) in
+        (r.0, r.1, r.2, Contains-later e made r.0 r.3, r.4, r.5, r.6)
 
 -- ---- of halves
 
 -- what was read of both halves
-pub read_both : (s t : List (Option SubQuery)) (c d : List (Option Came)) (f g : List (Option Found)) (a b : List Group) → AreRead s c f a → AreRead t d g b → AreRead (s ++ t) (c ++ d) (f ++ g) (a ++ b)
-read_both [] t [] d [] g a b h k = subst (AreRead t d g) (sym (ap (λ (r : List Group). r ++ b) h)) k
-read_both [] t [] d (y ∷ f) g a b h k = absurd h
-read_both [] t (x ∷ c) d f g a b h k = absurd h
-read_both (q ∷ s) t [] d f g a b h k = absurd h
-read_both (q ∷ s) t (x ∷ c) d [] g a b h k = absurd h
-read_both (q ∷ s) t (x ∷ c) d (y ∷ f) g a b h k = (h.0, h.1 ++ b, h.2, read_both s t c d f g h.1 b h.3 k, ap (λ (r : List Group). r ++ b) h.4 ∙ append_assoc h.0 h.1 b)
+read_both : (query : Query) (s t : List Exchange) (m n : List Missed) (a b : List Group) → AreRead query s m a → AreRead query t n b → AreRead query (s ++ t) (m ++ n) (a ++ b)
+read_both query [] t [] n a b h k = subst (AreRead query t n) (sym (ap (λ (r : List Group). r ++ b) h)) k
+read_both query [] t (y ∷ m) n a b h k = absurd h
+read_both query (e ∷ s) t [] n a b h k = absurd h
+read_both query (e ∷ s) t (y ∷ m) n a b h k = (h.0, h.1 ++ b, h.2, h.3, read_both query s t m n h.1 b h.4 k, ap (λ (r : List Group). r ++ b) h.5 ∙ append_assoc h.0 h.1 b)
 
 any_left : {X : Type 0} (P : X → Type 0) (xs ys : List X) → Any P xs → Any P (xs ++ ys)
 any_left P xs ys h = (h.0, h.1, omega (arith, length-append xs ys, h.2), get_or_append_left xs ys h.1 h.0 h.2 ∙ h.3, h.4)
@@ -138,30 +103,34 @@ any_left P xs ys h = (h.0, h.1, omega (arith, length-append xs ys, h.2), get_or_
 any_right : {X : Type 0} (P : X → Type 0) (xs ys : List X) → Any P ys → Any P (xs ++ ys)
 any_right P xs ys h = (length xs + h.0, h.1, omega (arith, length-append xs ys, h.2), get_or-append-add xs ys h.0 h.1 ∙ h.3, h.4)
 
--- a half that lacked memory
-pub right_lacks : {F : Type 0} (query : Query) (t : List (Option SubQuery)) (c d : List (Option Came)) (g : List (Option Found)) (r : Result (Option Partial) F) (fault : F) → r ≡ Err fault → Reads query t d g r
-    → Any (λ one. IsSomeAnd one MayLackMemory) (c ++ d)
-right_lacks query t c d g r fault e h = any_right (λ one. IsSomeAnd one MayLackMemory) c d (subst (λ (x : Result (Option Partial) _). Reads query t d g x) e h)
+-- memory may have run out at one of the exchanges
+abbrev pub MayLack : Exchange → Type 0
+MayLack e = MayLackMemory e.came
 
-some_came : (query : Query) (c : List (Option Came)) (told : Option Partial) → IfSome told (λ p. IsPartialFor query p × Any (λ one. IsSomeAnd one MayLackMemory) c) → IsSome told → Any (λ one. IsSomeAnd one MayLackMemory) c
-some_came query c None h some = absurd (false≢true some)
-some_came query c (Some p) h some = h.1
+-- a half that lacked memory
+pub right_lacks : {F : Type 0} (query : Query) (left right result : Result (Option Partial) F) (fault : F) → right ≡ Err fault → result ≡ Err fault → BothRead query left right result
+right_lacks {F} query left right result fault e is s t m n h k =
+    subst (λ (r : Result (Option Partial) F). Reads query (s ++ t) (m ++ n) r) (sym is) (any_right MayLack s t (subst (λ (r : Result (Option Partial) F). Reads query t n r) e k))
+
+some_came : (query : Query) (made : List Exchange) (told : Option Partial) → IfSome told (λ p. IsPartialFor query p × Any MayLack made) → IsSome told → Any MayLack made
+some_came query made None h some = absurd (false≢true some)
+some_came query made (Some p) h some = h.1
 
 -- both halves, merged
-pub both_read : {F : Type 0} (query : Query) (s t : List (Option SubQuery)) (c d : List (Option Came)) (f g : List (Option Found)) (left right : Option Partial) (l r result : Result (Option Partial) F) → l ≡ Ok left → r ≡ Ok right
+pub both_read : {F : Type 0} (query : Query) (left right : Option Partial) (l r result : Result (Option Partial) F) → l ≡ Ok left → r ≡ Ok right
     → IfOk result (λ both. (a b : List Group) → TellsIf query a left → TellsIf query b right → TellsIf query (a ++ b) both) → IfOk result (λ both. IfSome both (λ p. IsPartialFor query p × (IsSome left ⊎ IsSome right)))
-    → OnErr result (IsSome left) → Reads query s c f l → Reads query t d g r → Reads query (s ++ t) (c ++ d) (f ++ g) result
-both_read {F} query s t c d f g left right l r result el er told some err h k =
-    at result told some err (subst (λ (x : Result (Option Partial) _). Reads query s c f x) el h) (subst (λ (x : Result (Option Partial) _). Reads query t d g x) er k)
+    → OnErr result (IsSome left) → BothRead query l r result
+both_read {F} query left right l r result el er told some err s t m n h k =
+    at result told some err (subst (λ (x : Result (Option Partial) F). Reads query s m x) el h) (subst (λ (x : Result (Option Partial) F). Reads query t n x) er k)
   where
     at : (result : Result (Option Partial) F) → IfOk result (λ both. (a b : List Group) → TellsIf query a left → TellsIf query b right → TellsIf query (a ++ b) both)
         → IfOk result (λ both. IfSome both (λ p. IsPartialFor query p × (IsSome left ⊎ IsSome right))) → OnErr result (IsSome left)
-        → Reads {F = F} query s c f (Ok left) → Reads {F = F} query t d g (Ok right) → Reads {F = F} query (s ++ t) (c ++ d) (f ++ g) result
-    at (Err fault) told some err h k = any_left (λ one. IsSomeAnd one MayLackMemory) c d (some_came query c left h.1 err)
-    at (Ok None) told some err h k = ((h.0.0 ++ k.0.0, read_both s t c d f g h.0.0 k.0.0 h.0.1 k.0.1, told h.0.0 k.0.0 h.0.2 k.0.2), tt)
+        → Reads {F = F} query s m (Ok left) → Reads {F = F} query t n (Ok right) → Reads {F = F} query (s ++ t) (m ++ n) result
+    at (Err fault) told some err h k = any_left MayLack s t (some_came query s left h.1 err)
+    at (Ok None) told some err h k = ((h.0.0 ++ k.0.0, read_both query s t m n h.0.0 k.0.0 h.0.1 k.0.1, told h.0.0 k.0.0 h.0.2 k.0.2), tt)
     at (Ok (Some p)) told some err h k = (
-      (h.0.0 ++ k.0.0, read_both s t c d f g h.0.0 k.0.0 h.0.1 k.0.1, told h.0.0 k.0.0 h.0.2 k.0.2),
-      (some.0, elim some.1 [ inl one ↦ any_left (λ one. IsSomeAnd one MayLackMemory) c d (some_came query c left h.1 one) | inr other ↦ any_right (λ one. IsSomeAnd one MayLackMemory) c d (some_came query d right k.1 other) ]),
+      (h.0.0 ++ k.0.0, read_both query s t m n h.0.0 k.0.0 h.0.1 k.0.1, told h.0.0 k.0.0 h.0.2 k.0.2),
+      (some.0, elim some.1 [ inl one ↦ any_left MayLack s t (some_came query s left h.1 one) | inr other ↦ any_right MayLack s t (some_came query t right k.1 other) ]),
     )
 
 -- ---- merges
@@ -194,6 +163,10 @@ told_both query l r left right both here there of merge a b h k =
 
 -- ---- what one node gives
 
+-- the bytes that were sent ask the subquery
+pub stepped : {L : Type 0} (step : L → List ℕ → Came → L → Type 0) (sub : SubQuery) (bytes there : List ℕ) (came : Came) (old new : L) → bytes ≡ sub_request sub → there ≡ bytes → step old there came new → step old (sub_request sub) came new
+stepped step sub bytes there came old new asks same h = subst (λ (bs : List ℕ). step old bs came new) (same ∙ asks) h
+
 pub at_some : {X : Type 0} (o : Option X) (x : X) (P : X → Type 0) → o ≡ Some x → IfSome o P → P x
 at_some o x P e h = subst (λ (r : Option _). IfSome r P) e h
 
@@ -203,86 +176,137 @@ at_none o P e h = subst (λ (r : Option _). IfNone r P) e h
 pub answer_lacks : (sub : SubQuery) (came : Came) (missing : List Asked) (rows : List Group) → ((node : ℕ) → Answers sub.query (exchange_of sub came node) missing rows) → MayLackMemory came
 answer_lacks sub came missing rows a = let x = a 0 in inr (x.bytes, x.body, x.rest, x.came, x.response)
 
--- a link that was asked, and what it gave
-abbrev pub WasAsked : {L F : Type 0} → (L → List ℕ → Came → L → Type 0) → Query → Option SubQuery → L → L → Option Found → Result (Option Partial) F → Type 0
-WasAsked step query s old new found result = (came : Option Came) × AnswersOne step old (option_map sub_request s) came new × ReadsOne query s came found result
+pub one_lacks : (sub : SubQuery) (came : Came) (node : ℕ) → MayLackMemory came → Any MayLack (exchange_of sub came node ∷ [])
+one_lacks sub came node lacks = (0, exchange_of sub came node, omega arith, refl, lacks)
 
-stepped : {L : Type 0} (step : L → List ℕ → Came → L → Type 0) (s : Option SubQuery) (sub : SubQuery) (bytes : List ℕ) (came : Came) (old new : L) → s ≡ Some sub → bytes ≡ sub_request sub → step old bytes came new
-    → AnswersOne step old (option_map sub_request s) (Some came) new
-stepped step s sub bytes came old new e is h =
-    subst (λ (o : Option SubQuery). AnswersOne step old (option_map sub_request o) (Some came) new) (sym e) (subst (λ (bs : List ℕ). step old bs came new) is h)
+pub one_lost : (query : Query) (sub : SubQuery) (came : Came) (node : ℕ) → sub.query ≡ query → ((node : ℕ) → IsLost sub.query (exchange_of sub came node))
+    → Reads {F = Unit {0}} query (exchange_of sub came node ∷ []) ((node, None) ∷ []) (Ok None)
+one_lost query sub came node of lost = (([], ([], [], refl, (subst (λ (q : Query). IsLost q (exchange_of sub came node)) of (lost node), refl), refl, refl), refl), tt)
 
-pub one_lacks : {L F : Type 0} (step : L → List ℕ → Came → L → Type 0) (query : Query) (s : Option SubQuery) (sub : SubQuery) (bytes : List ℕ) (came : Came) (old new : L) (found : Option Found) (fault : F) → s ≡ Some sub → bytes ≡ sub_request sub
-    → step old bytes came new → MayLackMemory came → WasAsked step query s old new found (Err fault)
-one_lacks step query s sub bytes came old new found fault e is h lacks = (Some came, stepped step s sub bytes came old new e is h, (0, Some came, omega arith, refl, lacks))
-
-pub one_lost : {L : Type 0} (step : L → List ℕ → Came → L → Type 0) (query : Query) (s : Option SubQuery) (sub : SubQuery) (bytes : List ℕ) (came : Came) (old new : L) → s ≡ Some sub → bytes ≡ sub_request sub
-    → step old bytes came new → ((node : ℕ) → IsLost sub.query (exchange_of sub came node)) → WasAsked {F = Unit {0}} step query s old new None (Ok None)
-one_lost step query s sub bytes came old new e is h lost = (
-  Some came,
-  stepped step s sub bytes came old new e is h,
-  (([], ([], [], subst (λ (o : Option SubQuery). IsRead o (Some came) None []) (sym e) (lost, refl), refl, refl), refl), tt),
-)
-
-pub one_told : {L : Type 0} (step : L → List ℕ → Came → L → Type 0) (query : Query) (s : Option SubQuery) (sub : SubQuery) (bytes : List ℕ) (came : Came) (old new : L) (found : Found) (p : Partial) → s ≡ Some sub → bytes ≡ sub_request sub
-    → step old bytes came new → IfSome s (λ s. s.query ≡ query)
+pub one_told : (query : Query) (sub : SubQuery) (came : Came) (node : ℕ) (found : Found) (p : Partial) → sub.query ≡ query
     → (missing : List Asked) × ((node : ℕ) → Answers sub.query (exchange_of sub came node) missing p.groups) × TellsPlaces found missing → IsPartialFor sub.query p → IsPartial p
-    → WasAsked {F = Unit {0}} step query s old new (Some found) (Ok (Some p))
-one_told step query s sub bytes came old new found p e is h of answer for valid =
-    let same : sub.query ≡ query = at_some s sub (λ s. s.query ≡ query) e of in
-    let mine : IsPartialFor query p = subst (λ (q : Query). IsPartialFor q p) same for in
-    let whole : IsResult (kinds_of query) p.groups p.groups = subst (λ (ks : List AggregatorKind). IsResult ks p.groups p.groups) mine.kinds (tells_itself p valid) in (
-      Some came,
-      stepped step s sub bytes came old new e is h,
-      (
-        (p.groups, (p.groups, [], subst (λ (o : Option SubQuery). IsRead o (Some came) (Some found) p.groups) (sym e) answer, refl, sym (append-nil p.groups)), whole),
-        (mine, (0, Some came, omega arith, refl, answer_lacks sub came answer.0 p.groups answer.1)),
-      ),
+    → Reads {F = Unit {0}} query (exchange_of sub came node ∷ []) ((node, Some found) ∷ []) (Ok (Some p))
+one_told query sub came node found p of answer for valid =
+    let mine : IsPartialFor query p = subst (λ (q : Query). IsPartialFor q p) of for in
+    let whole : IsResult (kinds_of query) p.groups p.groups = subst (λ (ks : List AggregatorKind). IsResult ks p.groups p.groups) mine.kinds (tells_itself p valid) in
+    let told = subst (λ (q : Query). Answers q (exchange_of sub came node) answer.0 p.groups) of (answer.1 node) in (
+      (p.groups, (p.groups, [], refl, (answer.0, told, answer.2), refl, sym (append-nil p.groups)), whole),
+      (mine, one_lacks sub came node (answer_lacks sub came answer.0 p.groups answer.1)),
     )
 
 -- ---- of links
 
--- links that were asked so, and what was read of them
-abbrev pub WereAsked : {L M F : Type 0} → (L → List ℕ → Came → L → Type 0) → Query → (M → Option Found) → List L → List (Option SubQuery) → List M → List L → Result (Option Partial) F → Type 0
-WereAsked step query g old subs missed new result =
-    (came : List (Option Came)) × AreAnswered step old (map (option_map sub_request) subs) came new × Reads query subs came (map g missed) result
+-- no exchange
+pub none_sent : {L F : Type 0} (step : L → List ℕ → Came → L → Type 0) (query : Query) (first : ℕ) (asks : List Ask) (links : List L) (missed : List Missed) → asks ≡ [] → missed ≡ [] → AreSent {F = F} step query first asks links links missed (Ok None)
+none_sent step query first asks links missed none also = rw (none, also) (record { made = []; of = refl; led = none_led step query first links; read = (([], refl, refl), tt) })
 
--- no link
-pub no_link : {L M : Type 0} (step : L → List ℕ → Came → L → Type 0) (query : Query) (g : M → Option Found) (old : List L) (subs : List (Option SubQuery)) (missed : List M) → length old ≡ 0 → length old ≡ length subs → length old ≡ length missed
-    → WereAsked {F = Unit {0}} step query g old subs missed old (Ok None)
-no_link step query g [] [] [] none e d = ([], tt, (([], refl, refl), tt))
-no_link step query g (x ∷ old) subs missed none e d = absurd (omega arith)
-no_link step query g [] (s ∷ subs) missed none e d = absurd (omega arith)
-no_link step query g [] [] (m ∷ missed) none e d = absurd (omega arith)
+-- one exchange
+pub one_sent : {L F : Type 0} (step : L → List ℕ → Came → L → Type 0) (query : Query) (first place node : ℕ) (sub : SubQuery) (asks : List Ask) (old new : List L) (a b : L) (missed : List Missed) (m : Missed) (r : Result (Option Partial) F)
+    → asks ≡ (node, sub.asked) ∷ [] → missed ≡ m ∷ [] → new ≡ set old place b → node ≡ first + place → a ≡ get_or old place a → place < length old → sub.query ≡ query
+    → (came : Came) × step a (sub_request sub) came b × Reads query (exchange_of sub came node ∷ []) (m ∷ []) r → AreSent step query first asks old new missed r
+one_sent step query first place node sub asks old new a b missed m r of also is at there within same h =
+    let stepped = subst (λ (q : Query). step a (request_text (request_for q sub.asked)) h.0 b) same h.1 in
+    rw (of, also, is) (record { made = exchange_of sub h.0 node ∷ []; of = refl; led = one_led step query first place (exchange_of sub h.0 node) old a b at there within stepped; read = h.2 })
 
--- one link
-pub one_link : {L M F : Type 0} (step : L → List ℕ → Came → L → Type 0) (query : Query) (g : M → Option Found) (old : List L) (subs : List (Option SubQuery)) (missed : List M) (a b : L) (s : Option SubQuery) (m : M) (r : Result (Option Partial) F)
-    → length old ≡ 1 → length old ≡ length subs → length old ≡ length missed → a ≡ get_or old 0 a → s ≡ get_or subs 0 s
-    → (came : Option Came) × AnswersOne step a (option_map sub_request s) came b × ReadsOne query s came (g m) r
-    → WereAsked step query g old subs (set missed 0 m) (set old 0 b) r
-one_link step query g [] subs missed a b s m r one e d at there h = absurd (omega arith)
-one_link step query g (x ∷ y ∷ old) subs missed a b s m r one e d at there h = absurd (omega arith)
-one_link step query g (x ∷ []) [] missed a b s m r one e d at there h = absurd (omega arith)
-one_link step query g (x ∷ []) (q ∷ z ∷ subs) missed a b s m r one e d at there h = absurd (omega arith)
-one_link step query g (x ∷ []) (q ∷ []) [] a b s m r one e d at there h = absurd (omega arith)
-one_link step query g (x ∷ []) (q ∷ []) (n ∷ w ∷ missed) a b s m r one e d at there h = absurd (omega arith)
-one_link {L} step query g (x ∷ []) (q ∷ []) (n ∷ []) a b s m r one e d at there h = (
-  h.0 ∷ [],
-  (subst (λ (l : L). AnswersOne step l (option_map sub_request q) h.0 b) at (subst (λ (p : Option SubQuery). AnswersOne step a (option_map sub_request p) h.0 b) there h.1), tt),
-  subst (λ (p : Option SubQuery). ReadsOne query p h.0 (g m) r) there h.2,
+-- ---- halves of them
+
+rise_front : (xs ys : List ℕ) → IsStrictlyIncreasing (xs ++ ys) → IsStrictlyIncreasing xs
+rise_front xs ys up k within = omega (arith, up k (omega (arith, length-append xs ys)), get_or_append_left xs ys 0 k (omega arith), get_or_append_left xs ys 0 (k + 1) within)
+
+rise_back : (xs ys : List ℕ) → IsStrictlyIncreasing (xs ++ ys) → IsStrictlyIncreasing ys
+rise_back xs ys up k within =
+    let below = AllPairs-from_increasing (xs ++ ys) up (length xs + k) (length xs + (k + 1)) 0 (omega arith) (omega (arith, length-append xs ys, within)) in
+    omega (arith, below, get_or-append-add xs ys k 0, get_or-append-add xs ys (k + 1) 0)
+
+front_below : (xs ys : List ℕ) → IsStrictlyIncreasing (xs ++ ys) → (x y : ℕ) → Contains xs x → Contains ys y → x < y
+front_below xs ys up x y c d =
+    let below = AllPairs-from_increasing (xs ++ ys) up c.0 (length xs + d.0) x (omega (arith, c.1)) (omega (arith, length-append xs ys, d.1)) in
+    let same = get_or_append_left xs ys x c.0 c.1 in
+    let also = get_or-append-add xs ys d.0 x in
+    let last = get_or_any ys d.0 x y d.1 in
+    omega (arith, below, same, also, last, c.2, d.2)
+  where
+    get_or_any : (ys : List ℕ) (k x y : ℕ) → k < length ys → get_or ys k x ≡ get_or ys k y
+    get_or_any [] k x y within = absurd (omega arith)
+    get_or_any (z ∷ ys) zero x y within = refl
+    get_or_any (z ∷ ys) (suc k) x y within = get_or_any ys k x y (omega arith)
+
+first_is_least : (asks : List Ask) (next : ℕ) (d : Ask) → 0 < length asks → next ≡ (get_or asks 0 d).0 → IsStrictlyIncreasing (map (λ (ask : Ask). ask.0) asks) → (ask : Ask) → Contains asks ask → next ≤ ask.0
+first_is_least [] next d some is up ask c = absurd (omega arith)
+first_is_least (a ∷ asks) next d some is up ask c = elim (Contains-cons a asks ask c) [
+  | inl same ↦ let one = ap (λ (x : Ask). x.0) same in omega (arith, is, one)
+  | inr there ↦
+      let above = IsStrictlyIncreasing-first a.0 (map (λ (x : Ask). x.0) asks) ask.0 up (Contains-map_back (λ (x : Ask). x.0) asks ask there) in
+      omega (arith, is, above)
+]
+
+-- the nodes of the halves of asks that have their links have theirs in the halves of the links
+halves : (first next m n : ℕ) (front back : List Ask) (d : Ask) → 0 < length back → next ≡ (get_or back 0 d).0 → next ≡ first + m → HaveLinks first (m + n) (front ++ back) → HaveLinks first m front × HaveLinks next n back
+halves first next m n front back d some is cut linked = (
+  record {
+    rising = rise_front (map node front) (map node back) up;
+    each = λ ask c.
+        let whole = linked.each ask (Contains-append_left front back ask c) in
+        let less = front_below (map node front) (map node back) up ask.0 next (Contains-map_back node front ask c) in_back in
+        (whole.0, omega (arith, less, cut));
+  },
+  record {
+    rising = rise_back (map node front) (map node back) up;
+    each = λ ask c.
+        let whole = linked.each ask (Contains-append_right front back ask c) in
+        (first_is_least back next d some is (rise_back (map node front) (map node back) up) ask c, omega (arith, whole.1, cut));
+  },
+)
+  where
+    node : Ask → ℕ
+    node ask = ask.0
+
+    up : IsStrictlyIncreasing (map node front ++ map node back)
+    up = subst IsStrictlyIncreasing (map-append node front back) linked.rising
+
+    in_back : Contains (map node back) next
+    in_back = subst (Contains (map node back)) (sym is) (Contains-map_back node back (get_or back 0 d) (Contains-get_or back 0 d some))
+
+-- the same of what is asked so
+pub halves_in : {X : Type 0} (g : X → Ask) (first next m n count : ℕ) (xs front back : List X) (d : X) → xs ≡ front ++ back → 0 < length back → next ≡ (g (get_or back 0 d)).0 → next ≡ first + m → count ≡ m + n → HaveLinks first count (map g xs)
+    → HaveLinks first m (map g front) × HaveLinks next n (map g back)
+halves_in g first next m n count xs front back d e some is cut parts linked =
+    halves first next m n (map g front) (map g back) (g d) (omega (arith, some, length-map back g)) (is ∙ sym (ap (λ (ask : Ask). ask.0) (get_or-map g back 0 d (g d) some))) cut
+    (subst (λ (k : ℕ). HaveLinks first k (map g front ++ map g back)) parts (subst (HaveLinks first count) (ap (map g) e ∙ map-append g front back) linked))
+
+pub first_in : {X : Type 0} (g : X → Ask) (first count : ℕ) (xs front back : List X) (d : X) → xs ≡ front ++ back → 0 < length back → HaveLinks first count (map g xs)
+    → (first ≤ (g (get_or back 0 d)).0) × ((g (get_or back 0 d)).0 < first + count)
+first_in {X} g first count xs front back d e some linked =
+    linked.each (g (get_or back 0 d)) (Contains-map_back g xs (get_or back 0 d)
+    (subst (λ (ys : List X). Contains ys (get_or back 0 d)) (sym e) (Contains-append_right front back (get_or back 0 d) (Contains-get_or back 0 d some))))
+
+pub all_halves : {X : Type 0} (P : X → Type 0) (xs front back : List X) → xs ≡ front ++ back → All P xs → All P front × All P back
+all_halves P xs front back e whole = (
+  λ k d within. subst P (get_or_append_left front back d k within) (subst (All P) e whole k d (omega (arith, within, length-append front back))),
+  λ k d within. subst P (get_or-append-add front back k d) (subst (All P) e whole (length front + k) d (omega (arith, within, length-append front back))),
 )
 
+pub only_one : {X : Type 0} (xs : List X) (x d : X) → length xs ≡ 1 → x ≡ get_or xs 0 d → xs ≡ x ∷ []
+only_one [] x d one is = absurd (omega arith)
+only_one (y ∷ z ∷ xs) x d one is = absurd (omega arith)
+only_one (y ∷ []) x d one is = λ i. sym is i ∷ []
+
+-- what was sent to a node of these has its link
+with_link : (first count : ℕ) (asks : List Ask) (made : List Exchange) → HaveLinks first count asks → map ask_of made ≡ asks → (e : Exchange) → Contains made e → (first ≤ e.node) × (e.node < first + count)
+with_link first count asks made linked of e c = linked.each (ask_of e) (subst (λ (xs : List Ask). Contains xs (ask_of e)) of (Contains-map_back ask_of made e c))
+
 -- the links of both halves
-pub both_links : {L M F : Type 0} (step : L → List ℕ → Came → L → Type 0) (query : Query) (g : M → Option Found) (old : List L) (subs : List (Option SubQuery)) (front back : List L) (asked asked' : List (Option SubQuery)) (missed missed' : List M)
-    (new new' : List L) (left right result : Result (Option Partial) F) → old ≡ front ++ back → subs ≡ asked ++ asked' → WereAsked step query g front asked missed new left → WereAsked step query g back asked' missed' new' right
-    → ((s t : List (Option SubQuery)) (c d : List (Option Came)) (f h : List (Option Found)) → Reads query s c f left → Reads query t d h right → Reads query (s ++ t) (c ++ d) (f ++ h) result)
-    → WereAsked step query g old subs (missed ++ missed') (new ++ new') result
-both_links step query g old subs front back asked asked' missed missed' new new' left right result of_links of_subs h k merge =
-    rw (of_links, of_subs) (
-      h.0 ++ k.0,
-      rw (map-append (option_map sub_request) asked asked') (answered_both step front (map (option_map sub_request) asked) h.0 new back (map (option_map sub_request) asked') k.0 new' h.1 k.1),
-      rw (map-append g missed missed') (merge asked asked' h.0 k.0 (map g missed) (map g missed') h.2 k.2),
-    )
+pub both_sent : {L F : Type 0} (step : L → List ℕ → Came → L → Type 0) (query : Query) (first next count : ℕ) (asks ask ask' : List Ask) (old front back new new' : List L) (missed missed' all : List Missed) (left right result : Result (Option Partial) F)
+    → old ≡ front ++ back → asks ≡ ask ++ ask' → all ≡ missed ++ missed' → next ≡ first + length front → HaveLinks first (length front) ask → HaveLinks next count ask' → AreSent step query first ask front new missed left
+    → AreSent step query next ask' back new' missed' right → BothRead query left right result → AreSent step query first asks old (new ++ new') all result
+both_sent step query first next count asks ask ask' old front back new new' missed missed' all left right result of_links of_asks of_missed cut in_front in_back h k merge = record {
+  made = h.made ++ k.made;
+  of = map-append ask_of h.made k.made ∙ (λ i. h.of i ++ k.of i) ∙ sym of_asks;
+  led = rw of_links (both_led step query first next h.made k.made front new back new' cut
+      (λ e c. let link = with_link first (length front) ask h.made in_front h.of e c in omega (arith, link.1, cut))
+      (λ e c. (with_link next count ask' k.made in_back k.of e c).0) h.led k.led);
+  read = rw of_missed (merge h.made k.made missed missed' h.read k.read);
+}
 
 -- ---- what is told beside a partial
 
@@ -295,13 +319,3 @@ pub nothing_beside : (query : Query) (o : Option Partial) (p : Partial) → o �
 nothing_beside query o p e a b h k =
     let none : b ≡ [] = subst (TellsIf query b) e k in
     subst (λ (rows : List Group). IsResult (kinds_of query) rows p.groups) (sym (ap (λ (xs : List Group). a ++ xs) none ∙ append-nil a)) h
-
--- ---- places that were there before
-
-pub found_as_many : (s : List (Option SubQuery)) (c : List (Option Came)) (f : List (Option Found)) (rows : List Group) → AreRead s c f rows → length f ≡ length s
-found_as_many [] [] [] rows h = refl
-found_as_many [] [] (y ∷ f) rows h = absurd h
-found_as_many [] (x ∷ c) f rows h = absurd h
-found_as_many (q ∷ s) [] f rows h = absurd h
-found_as_many (q ∷ s) (x ∷ c) [] rows h = absurd h
-found_as_many (q ∷ s) (x ∷ c) (y ∷ f) rows h = ap suc (found_as_many s c f h.1 h.3)

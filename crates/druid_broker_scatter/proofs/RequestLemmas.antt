@@ -1,122 +1,101 @@
 -- What a round asks the nodes for, piece after piece.
-use Rattle.std.proofs.Common.{◌≡◌, ◌≢◌, ◌∙◌, ℕ, zero, suc, ◌+◌, ◌<◌, ◌≤◌, Bool, true, false, cond, List, [], ◌∷◌, ◌++◌, length, map, filter, take, drop, get_or, set, ◌==◌, Option, Some, None, Result, Ok, Err, refl, sym, ap, subst, arith}
-use Rattle.std.specs.List.{slice_get, range_with_len}
-use Rattle.std.specs.Result.{IfOk}
+use Rattle.std.proofs.Common.{◌≡◌, ◌∙◌, ℕ, zero, suc, ◌<◌, Bool, true, false, cond, List, [], ◌∷◌, ◌++◌, length, map, take, drop, ◌==◌, Option, Some, None, option_map, unwrap_or, Vec, Contains, refl, sym, ap, subst, arith}
+use Rattle.std.specs.Global.{Global}
+use Rattle.std.specs.List.Sorted.{IsStrictlyIncreasing}
+use Rattle.std.specs.BTreeMap as tree
+use Rattle.std.specs.Cmp.{nat_cmp_total, unsigned_ties}
+use Rattle.std.specs.Ordering.{nat_cmp}
 use Rattle.std.proofs.lemmas.Bool.{false≢true}
 use Rattle.std.proofs.lemmas.Bool.Decides.{Decides-eqb}
-use Rattle.std.proofs.lemmas.List.{append-nil, map-append, map_push, take_more, take_all, drop_all}
-use Rattle.std.proofs.lemmas.List.Elements.{filter-append}
+use Rattle.std.proofs.lemmas.List.{append-nil, map_push, take_all, drop_all}
+use Rattle.std.proofs.lemmas.Option.{same_Some}
+use Rattle.std.proofs.lemmas.Map.Keys.{IsStrictlyIncreasing-from_sorted}
+use Rattle.std.proofs.lemmas.Map.Lookups.{exact_unsigned}
+use Rattle.std.proofs.lemmas.Map.Views.{btree_map_get_iff}
+use Rattle.druid_base.proofs.ListLemmas.{Contains-here}
+use Rattle.druid_base.proofs.MemberLemmas.{Contains-map, Contains-map_back, Contains-nil}
 use Rattle.druid_query.specs.Asked.{Asked}
-use Rattle.druid_query.specs.Query.{Query}
-use Rattle.druid_query.specs.SubQuery.{SubQuery}
-use Rattle.druid_broker_scatter.specs.Gathered.{sub_of}
-use Rattle.druid_broker_scatter.specs.Waiting.{Waiting, pushed, pushed_at, has_turn, is_node, wanted_of, pieces_of, sub_if}
-use Rattle.druid_broker_scatter.proofs.MadeLemmas.{one_more_sub}
+use Rattle.druid_broker_scatter.specs.Slices.{Slices, NoneEmpty, slices_of}
+use Rattle.druid_broker_scatter.specs.Waiting.{Waiting, Ask, IsRound, wanted_of}
+use Rattle.druid_broker_scatter.proofs.AskedLemmas.{wanted_back}
 
--- ---- one piece
+-- ---- the first piece of a node
 
-pub set_pushed : {V : Type 0} (f : V → List Asked) (xs : List V) (node : ℕ) (v d : V) (a : Asked) → node < length xs → f v ≡ f (get_or xs node d) ++ a ∷ [] → map f (set xs node v) ≡ pushed (map f xs) node a
-set_pushed f [] node v d a h e = absurd (omega arith)
-set_pushed f (x ∷ xs) zero v d a h e = ap (λ (y : List Asked). y ∷ map f xs) e
-set_pushed f (x ∷ xs) (suc node) v d a h e = ap (λ (ys : List (List Asked)). f x ∷ ys) (set_pushed f xs node v d a (omega arith) e)
+get_after : (old mid new : Slices) (node : ℕ) (v : Vec Asked Global) → mid ≡ old → tree.Updates nat_cmp mid new node (Some v) → (n : ℕ) → tree.get nat_cmp new n ≡ cond (node == n) (Some v) (tree.get nat_cmp old n)
+get_after old mid new node v same h n =
+    h.0 n ∙ ap (λ (b : Bool). cond b (Some v) (tree.get nat_cmp mid n)) (sym (unsigned_ties node n)) ∙ ap (λ (m : Slices). cond (node == n) (Some v) (tree.get nat_cmp m n)) same
 
-pub not_pushed : {V : Type 0} (f : V → List Asked) (xs : List V) (node : ℕ) (a : Asked) → length xs ≤ node → map f xs ≡ pushed (map f xs) node a
-not_pushed f [] node a h = refl
-not_pushed f (x ∷ xs) zero a h = absurd (omega arith)
-not_pushed f (x ∷ xs) (suc node) a h = ap (λ (ys : List (List Asked)). f x ∷ ys) (not_pushed f xs node a (omega arith))
+pub first_slice : (old mid new : Slices) (node : ℕ) (v : Vec Asked Global) (a : Asked) → mid ≡ old → tree.get nat_cmp old node ≡ None → tree.Updates nat_cmp mid new node (Some v) → v.items ≡ a ∷ []
+    → (n : ℕ) → slices_of new n ≡ slices_of old n ++ cond (node == n) (a ∷ []) []
+first_slice old mid new node v a same none h items n =
+    ap (λ (o : Option (Vec Asked Global)). unwrap_or (option_map (λ v. v.items) o) []) (get_after old mid new node v same h n) ∙ by (node == n) refl
+  where
+    by : (b : Bool) → (node == n) ≡ b → unwrap_or (option_map (λ (v : Vec Asked Global). v.items) (cond b (Some v) (tree.get nat_cmp old n))) [] ≡ slices_of old n ++ cond b (a ∷ []) []
+    by true e =
+        let absent : tree.get nat_cmp old n ≡ None = subst (λ (k : ℕ). tree.get nat_cmp old k ≡ None) ((Decides-eqb node n).0 e) none in
+        items ∙ ap (λ (o : Option (Vec Asked Global)). unwrap_or (option_map (λ v. v.items) o) [] ++ a ∷ []) (sym absent)
+    by false e = sym (append-nil (slices_of old n))
+
+pub first_some : (old mid new : Slices) (node : ℕ) (v : Vec Asked Global) (a : Asked) → mid ≡ old → tree.Updates nat_cmp mid new node (Some v) → v.items ≡ a ∷ [] → NoneEmpty old → NoneEmpty new
+first_some old mid new node v a same h items some n w e = by (node == n) (sym (get_after old mid new node v same h n) ∙ e)
+  where
+    by : (b : Bool) → cond b (Some v) (tree.get nat_cmp old n) ≡ Some w → 0 < length w.items
+    by true is = let one = ap length (sym (ap (λ (x : Vec Asked Global). x.items) (same_Some v w is)) ∙ items) in omega (arith, one)
+    by false is = some n w is
 
 -- ---- of all nodes
 
-same_after : (f g : ℕ → List Asked) (n k j : ℕ) → j < k → ((i : ℕ) → i ≢ j → g i ≡ f i) → map f (range_with_len k n) ≡ map g (range_with_len k n)
-same_after f g zero k j h e = refl
-same_after f g (suc n) k j h e = λ i. sym (e k (λ same. omega arith)) i ∷ same_after f g n (k + 1) j (omega arith) e i
+nodes_are : (es : List (ℕ × Vec Asked Global)) → map (λ (ask : Ask). ask.0) (map (λ e. (e.0, e.1.items)) es) ≡ map (λ e. e.0) es
+nodes_are [] = refl
+nodes_are (e ∷ es) = λ i. e.0 ∷ nodes_are es i
 
-pushed_range : (f g : ℕ → List Asked) (a : Asked) (n k j : ℕ) → g (k + j) ≡ f (k + j) ++ a ∷ [] → ((i : ℕ) → i ≢ k + j → g i ≡ f i) → pushed (map f (range_with_len k n)) j a ≡ map g (range_with_len k n)
-pushed_range f g a zero k j here e = refl
-pushed_range f g a (suc n) k zero here e =
-    let at : k + 0 ≡ k = omega arith in
-    let one : f k ++ a ∷ [] ≡ g k = sym (subst (λ (m : ℕ). g m ≡ f m ++ a ∷ []) at here) in
-    λ i. one i ∷ same_after f g n (k + 1) k (omega arith) (λ m apart. e m (λ same. apart (same ∙ at))) i
-pushed_range f g a (suc n) k (suc j) here e =
-    let at : k + suc j ≡ (k + 1) + j = omega arith in
-    let rest = pushed_range f g a n (k + 1) j (subst (λ (m : ℕ). g m ≡ f m ++ a ∷ []) at here) (λ m apart. e m (λ same. apart (same ∙ at))) in
-    λ i. sym (e k (λ same. omega arith)) i ∷ rest i
+some_in : {A : Type 0} (xs : List A) → 0 < length xs → (a : A) × Contains xs a
+some_in [] some = absurd (omega arith)
+some_in (x ∷ xs) some = (x, Contains-here x xs)
 
--- ---- one piece more
+-- an entry has what its node is asked for
+entry_is : (round : ℕ) (waits : List Waiting) (slices : Slices) → tree.IsOrdered nat_cmp slices → ((n : ℕ) → slices_of slices n ≡ wanted_of round waits n) → NoneEmpty slices
+    → (n : ℕ) (v : Vec Asked Global) → Contains slices.entries (n, v) → (v.items ≡ wanted_of round waits n) × (a : Asked) × Contains v.items a
+entry_is round waits slices ordered wanted some n v c =
+    let there = (btree_map_get_iff nat_cmp_total exact_unsigned slices ordered n v).1 c in
+    let one = some_in v.items (some n v there) in
+    (sym (ap (λ (o : Option (Vec Asked Global)). unwrap_or (option_map (λ v. v.items) o) []) there) ∙ wanted n, one.0, one.1)
 
-wanted_push : (round i : ℕ) (done : List Waiting) (w : Waiting) → wanted_of round (done ++ w ∷ []) i ≡ wanted_of round done i ++ pieces_of (cond (has_turn round i w) (w ∷ []) [])
-wanted_push round i done w =
-    ap pieces_of (filter-append (has_turn round i) done (w ∷ [])) ∙ map-append (λ (v : Waiting). v.asked) (filter (has_turn round i) done) (filter (has_turn round i) (w ∷ []))
-
-its_turn : (round node : ℕ) (done : List Waiting) (w : Waiting) → slice_get w.order round ≡ Some node → wanted_of round (done ++ w ∷ []) node ≡ wanted_of round done node ++ w.asked ∷ []
-its_turn round node done w at =
-    let turn : has_turn round node w ≡ true = ap (λ (o : Option ℕ). is_node o node) at ∙ (Decides-eqb node node).1 refl in
-    wanted_push round node done w ∙ ap (λ (b : Bool). wanted_of round done node ++ pieces_of (cond b (w ∷ []) [])) turn
-
-no_turn : (round i : ℕ) (done : List Waiting) (w : Waiting) → has_turn round i w ≡ false → wanted_of round (done ++ w ∷ []) i ≡ wanted_of round done i
-no_turn round i done w not =
-    wanted_push round i done w ∙ ap (λ (b : Bool). wanted_of round done i ++ pieces_of (cond b (w ∷ []) [])) not ∙ append-nil (wanted_of round done i)
-
-other_turn : (round node i : ℕ) (w : Waiting) → slice_get w.order round ≡ Some node → i ≢ node → has_turn round i w ≡ false
-other_turn round node i w at apart = is (has_turn round i w) refl
+-- and each that is asked for something has one
+has_entry : (slices : Slices) → tree.IsOrdered nat_cmp slices → (n : ℕ) (a : Asked) → Contains (slices_of slices n) a → (v : Vec Asked Global) × Contains slices.entries (n, v)
+has_entry slices ordered n a c = at (tree.get nat_cmp slices n) refl c
   where
-    is : (b : Bool) → has_turn round i w ≡ b → has_turn round i w ≡ false
-    is false e = e
-    is true e = absurd (apart (sym ((Decides-eqb node i).0 (sym (ap (λ (o : Option ℕ). is_node o i) at) ∙ e))))
+    at : (o : Option (Vec Asked Global)) → tree.get nat_cmp slices n ≡ o → Contains (unwrap_or (option_map (λ v. v.items) o) []) a → (v : Vec Asked Global) × Contains slices.entries (n, v)
+    at None e c = absurd (Contains-nil a c)
+    at (Some v) e c = (v, (btree_map_get_iff nat_cmp_total exact_unsigned slices ordered n v).0 e)
 
-pub slices_more : (round n node : ℕ) (waits : List Waiting) (k : ℕ) (w : Waiting) → k < length waits → w ≡ get_or waits k w → slice_get w.order round ≡ Some node
-    → pushed (map (wanted_of round (take k waits)) (range_with_len 0 n)) node w.asked ≡ map (wanted_of round (take (k + 1) waits)) (range_with_len 0 n)
-slices_more round n node waits k w within is at =
-    let more : take (k + 1) waits ≡ take k waits ++ w ∷ [] = take_more waits k w within ∙ ap (λ (x : Waiting). take k waits ++ x ∷ []) (sym is) in
-    let done = take k waits in
-    let start : node ≡ 0 + node = omega arith in
-    pushed_range (wanted_of round done) (wanted_of round (done ++ w ∷ [])) w.asked n 0 node
-    (subst (λ (m : ℕ). wanted_of round (done ++ w ∷ []) m ≡ wanted_of round done m ++ w.asked ∷ []) start (its_turn round node done w at))
-    (λ i apart. no_turn round i done w (other_turn round node i w at (λ same. apart (same ∙ start))))
-    ∙ ap (λ (ws : List Waiting). map (wanted_of round ws) (range_with_len 0 n)) (sym more)
+-- the asks of what each node is asked for
+pub is_round : (round : ℕ) (waits : List Waiting) (slices : Slices) (asks : List Ask) → tree.IsOrdered nat_cmp slices → ((n : ℕ) → slices_of slices n ≡ wanted_of round waits n) → NoneEmpty slices
+    → asks ≡ map (λ e. (e.0, e.1.items)) slices.entries → IsRound round waits asks
+is_round round waits slices asks ordered wanted some is = rw is (record {
+  rising = subst IsStrictlyIncreasing (sym (nodes_are slices.entries)) (IsStrictlyIncreasing-from_sorted (tree.keys slices) ordered);
+  each = λ ask c.
+      let e = Contains-map (λ (e : ℕ × Vec Asked Global). (e.0, e.1.items)) slices.entries ask c in
+      subst (λ (ask : Ask). (ask.1 ≡ wanted_of round waits ask.0) × (a : Asked) × Contains ask.1 a) e.2 (entry_is round waits slices ordered wanted some e.0.0 e.0.1 e.1);
+  all = λ w node c at.
+      let e = has_entry slices ordered node w.asked (subst (λ (xs : List Asked). Contains xs w.asked) (sym (wanted node)) (wanted_back round node waits w c at)) in
+      Contains-map_back (λ (ask : Ask). ask.0) (map (λ e. (e.0, e.1.items)) slices.entries) (node, e.0.items) (Contains-map_back (λ (e : ℕ × Vec Asked Global). (e.0, e.1.items)) slices.entries (node, e.0) e.1);
+})
 
-all_same : (f g : ℕ → List Asked) (n k : ℕ) → ((i : ℕ) → g i ≡ f i) → map f (range_with_len k n) ≡ map g (range_with_len k n)
-all_same f g zero k e = refl
-all_same f g (suc n) k e = λ i. sym (e k) i ∷ all_same f g n (k + 1) e i
+-- an exchange more, and the entry that it is for
+pub asks_more : {X : Type 0} (g : X → Ask) (old new : List X) (x : X) (done : List (ℕ × Vec Asked Global)) (n : ℕ) (v : Vec Asked Global) → new ≡ old ++ x ∷ [] → (g x).0 ≡ n → (g x).1 ≡ v.items
+    → map g old ≡ map (λ e. (e.0, e.1.items)) done → map g new ≡ map (λ e. (e.0, e.1.items)) (done ++ (n, v) ∷ [])
+asks_more g old new x done n v e node asked so_far =
+    let asks : ℕ × Vec Asked Global → Ask = λ e. (e.0, e.1.items) in
+    ap (map g) e ∙ map_push g old x ∙ (λ i. so_far i ++ (node i, asked i) ∷ []) ∙ sym (map_push asks done (n, v))
 
--- a piece that the round asks no node for
-pub slices_same : (round n : ℕ) (waits : List Waiting) (k : ℕ) (w : Waiting) → k < length waits → w ≡ get_or waits k w → slice_get w.order round ≡ None
-    → map (wanted_of round (take k waits)) (range_with_len 0 n) ≡ map (wanted_of round (take (k + 1) waits)) (range_with_len 0 n)
-slices_same round n waits k w within is at =
-    let more : take (k + 1) waits ≡ take k waits ++ w ∷ [] = take_more waits k w within ∙ ap (λ (x : Waiting). take k waits ++ x ∷ []) (sym is) in
-    let done = take k waits in
-    all_same (wanted_of round done) (wanted_of round (done ++ w ∷ [])) n 0 (λ i. no_turn round i done w (ap (λ (o : Option ℕ). is_node o i) at))
-    ∙ ap (λ (ws : List Waiting). map (wanted_of round ws) (range_with_len 0 n)) (sym more)
-
--- the subqueries for what the nodes are asked for
-pub subs_of : (query : Query) (f : ℕ → List Asked) (n k : ℕ) → map (sub_if query) (map f (range_with_len k n)) ≡ map (λ node. sub_if query (f node)) (range_with_len k n)
-subs_of query f zero k = refl
-subs_of query f (suc n) k = ap (λ (xs : _). sub_if query (f k) ∷ xs) (subs_of query f n (k + 1))
-
-pub slices_turn : (round n : ℕ) (waits : List Waiting) (k : ℕ) (w : Waiting) (old new : List (List Asked)) → k < length waits → w ≡ get_or waits k w → new ≡ pushed_at old (slice_get w.order round) w.asked
-    → old ≡ map (wanted_of round (take k waits)) (range_with_len 0 n) → new ≡ map (wanted_of round (take (k + 1) waits)) (range_with_len 0 n)
-slices_turn round n waits k w old new within is e so_far = e ∙ ap (λ (xs : List (List Asked)). pushed_at xs (slice_get w.order round) w.asked) so_far ∙ turn (slice_get w.order round) refl
+-- all entries were gone through
+pub asks_all : (asks : List Ask) (done all : List (ℕ × Vec Asked Global)) → map (λ e. e) done ≡ all → asks ≡ map (λ e. (e.0, e.1.items)) done → asks ≡ map (λ e. (e.0, e.1.items)) all
+asks_all asks done all e so_far = so_far ∙ itself done ∙ ap (map {B = Ask} (λ (e : ℕ × Vec Asked Global). (e.0, e.1.items))) e
   where
-    turn : (o : Option ℕ) → slice_get w.order round ≡ o → pushed_at (map (wanted_of round (take k waits)) (range_with_len 0 n)) o w.asked ≡ map (wanted_of round (take (k + 1) waits)) (range_with_len 0 n)
-    turn None at = slices_same round n waits k w within is at
-    turn (Some node) at = slices_more round n node waits k w within is at
-
--- a place more
-pub place_more : {V : Type 0} (f : V → List Asked) (old new : List V) (x : V) (k : ℕ) → new ≡ old ++ x ∷ [] → f x ≡ [] → map f old ≡ map (λ node. []) (range_with_len 0 k) → map f new ≡ map (λ node. []) (range_with_len 0 (k + 1))
-place_more f old new x k e none so_far = one_more_sub (λ node. []) k (map f old) (map f new) (f x) (ap (map f) e ∙ map_push f old x) none so_far
-
-pub some_sub : (query : Query) (asked : List Asked) (sub : SubQuery) → 0 < length asked → sub ≡ sub_of query asked → Some sub ≡ sub_if query asked
-some_sub query [] sub h e = absurd (omega arith)
-some_sub query (a ∷ more) sub h e = ap Some e
-
--- the subqueries of all nodes
-pub subs_all : {V : Type 0} (f : V → List Asked) (query : Query) (wanted : ℕ → List Asked) (n : ℕ) (xs : List V) (subs : List (Option SubQuery)) → map f xs ≡ map wanted (range_with_len 0 n) → subs ≡ map (λ x. sub_if query (f x)) xs
-    → subs ≡ map (λ node. sub_if query (wanted node)) (range_with_len 0 n)
-subs_all f query wanted n xs subs e is = is ∙ twice xs ∙ ap (map (sub_if query)) e ∙ subs_of query wanted n 0
-  where
-    twice : (xs : List _) → map (λ x. sub_if query (f x)) xs ≡ map (sub_if query) (map f xs)
-    twice [] = refl
-    twice (x ∷ xs) = ap (λ (ys : List (Option SubQuery)). sub_if query (f x) ∷ ys) (twice xs)
+    itself : (es : List (ℕ × Vec Asked Global)) → map {B = Ask} (λ (e : ℕ × Vec Asked Global). (e.0, e.1.items)) es ≡ map {B = Ask} (λ (e : ℕ × Vec Asked Global). (e.0, e.1.items)) (map (λ (e : ℕ × Vec Asked Global). e) es)
+    itself [] = refl
+    itself (e ∷ es) = λ i. (e.0, e.1.items) ∷ itself es i
 
 -- ---- counts
 
@@ -132,8 +111,3 @@ is_more (suc n) b e f = omega arith
 pub written_all : {V : Type 0} (n : ℕ) (old new : List V) → length old ≡ n → length new ≡ length old → take n (new ++ drop (length new) old) ≡ new
 written_all n old new long same =
     ap (λ (xs : List _). take n (new ++ xs)) (drop_all (length new) old (omega arith)) ∙ ap (take n) (append-nil new) ∙ take_all n new (omega arith)
-
-pub asks_all : {V W E : Type 0} (f : V → List Asked) (query : Query) (wanted : ℕ → List Asked) (n : ℕ) (xs : List V) (items : W → List (Option SubQuery)) (r : Result W E) → map f xs ≡ map wanted (range_with_len 0 n)
-    → IfOk r (λ asks. items asks ≡ map (λ x. sub_if query (f x)) xs) → IfOk r (λ asks. items asks ≡ map (λ node. sub_if query (wanted node)) (range_with_len 0 n))
-asks_all f query wanted n xs items (Ok asks) e is = subs_all f query wanted n xs (items asks) e is
-asks_all f query wanted n xs items (Err fault) e is = tt

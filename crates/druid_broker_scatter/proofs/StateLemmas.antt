@@ -1,6 +1,6 @@
 -- What is gathered, round after round.
-use Rattle.std.proofs.Common.{◌≡◌, ◌∙◌, inl, inr, ℕ, Bool, true, false, cond, List, [], ◌∷◌, ◌++◌, length, map, filter, Contains, Option, option_map, append_assoc, sym, ap, subst}
-use Rattle.std.specs.List.{AllByRecursion, range_with_len}
+use Rattle.std.proofs.Common.{◌≡◌, ◌∙◌, inl, inr, ℕ, Bool, true, false, cond, List, [], ◌∷◌, ◌++◌, map, filter, Contains, append_assoc, sym, ap, subst}
+use Rattle.std.specs.List.{AllByRecursion}
 use Rattle.std.specs.List.Sorted.{IsStrictlySortedBy}
 use Rattle.std.specs.declared.cmp.Ordering.{Ordering}
 use Rattle.std.specs.declared.cmp.Ordering.TheVariants.{Less}
@@ -8,18 +8,14 @@ use Rattle.std.proofs.lemmas.List.Elements.{All-contains}
 use Rattle.std.proofs.lemmas.List.Sorted.{All-permutation}
 use Rattle.druid_query.specs.Asked.{Asked}
 use Rattle.druid_query.specs.Query.{Query}
-use Rattle.druid_query.specs.SubQuery.{SubQuery}
 use Rattle.druid_partial.specs.Groups.{Group, IsResult}
 use Rattle.druid_partial.specs.Partials.{Partial, HasNumbers, IsPartial, IsPartialFor, IsGroupFor, kinds_of}
 use Rattle.druid_partial.proofs.MergedLemmas.{settled}
-use Rattle.druid_link.specs.Links.{Came}
 use Rattle.druid_broker_scatter.specs.Plan.{place_cmp}
-use Rattle.druid_broker_scatter.specs.Gathered.{Exchange, Answers, TellAll, AreMade}
-use Rattle.druid_broker_scatter.specs.Rounds.{AreAnswered}
-use Rattle.druid_broker_scatter.specs.Waiting.{Waiting, pieces_of, wanted_of, has_turn, at_cmp, place_of, sub_if, sub_request, made_from}
-use Rattle.druid_broker_scatter.proofs.StepLemmas.{own_keys}
+use Rattle.druid_broker_scatter.specs.Gathered.{Exchange, Answers, TellAll}
+use Rattle.druid_broker_scatter.specs.Waiting.{Waiting, pieces_of, wanted_of, has_turn, at_cmp, place_of}
+use Rattle.druid_broker_scatter.proofs.AskedLemmas.{own_keys}
 use Rattle.druid_broker_scatter.proofs.WaitLemmas.{at_cmp-total}
-use Rattle.druid_broker_scatter.proofs.MadeLemmas.{round_made, none_made}
 
 -- ---- partials
 
@@ -72,15 +68,3 @@ sorted_filter R f p (x ∷ xs) s =
 -- what a node is asked for is in the order of the plan
 pub wanted_sorted : (round node : ℕ) (left : List Waiting) → IsStrictlySortedBy place_cmp (pieces_of left) → IsStrictlySortedBy place_cmp (wanted_of round left node)
 wanted_sorted round node left s = sorted_filter place_cmp (λ (w : Waiting). w.asked) (has_turn round node) left s
-
--- ---- rounds
-
--- the exchanges of a round led the links so
-pub made_by : {L : Type 0} (step : L → List ℕ → Came → L → Type 0) (query : Query) (wanted : ℕ → List Asked) (old new : List L) (subs there : List (Option SubQuery)) (came : List (Option Came))
-    → there ≡ subs → subs ≡ map (λ node. sub_if query (wanted node)) (range_with_len 0 (length old)) → AreAnswered step old (map (option_map sub_request) there) came new → AreMade step query (made_from wanted 0 came) old new
-made_by step query wanted old new subs there came same e a =
-    round_made step query wanted (length old) old came new (subst (λ (ss : List (Option SubQuery)). AreAnswered step old (map (option_map sub_request) ss) came new) (same ∙ e) a)
-
--- links that nothing was sent over
-pub made_same : {L : Type 0} (step : L → List ℕ → Came → L → Type 0) (query : Query) (old new : List L) → new ≡ old → AreMade step query [] old new
-made_same step query old new e = subst (λ (x : _). AreMade step query [] old x) (sym e) (none_made step query old)

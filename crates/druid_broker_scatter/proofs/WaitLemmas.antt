@@ -1,19 +1,24 @@
 -- What waits, and what is kept of it.
-use Rattle.std.proofs.Common.{◌≡◌, ◌∙◌, ◌↔◌, ◌⊎◌, inl, inr, ℕ, ◌+◌, ◌<◌, ◌≤◌, Bool, true, false, cond, IsTrue, List, [], ◌∷◌, ◌++◌, length, get_or, take, map, All, Contains, refl, sym, ap, subst, arith}
-use Rattle.std.specs.List.Sorted.{IsPermutation, IsStrictlyIncreasing, IsStrictlySortedBy}
-use Rattle.std.specs.Ordering.{is_eq}
+use Rattle.std.proofs.Common.{◌≡◌, ◌≢◌, ◌∙◌, ◌↔◌, ◌⊎◌, ◌==◌, inl, inr, ℕ, zero, suc, ◌+◌, ◌<◌, ◌≤◌, Bool, true, false, cond, IsTrue, List, [], ◌∷◌, ◌++◌, length, get_or, take, map, Option, Some, None, Err, All, Contains, refl, sym, ap, subst, arith}
+use Rattle.std.specs.List.{slice_get}
+use Rattle.std.specs.List.Sorted.{IsBinarySearchResult, IsPartitionPoint, IsPermutation, IsStrictlyIncreasing, IsStrictlySortedBy}
+use Rattle.std.specs.Ordering.{is_eq, nat_cmp, ordering_index}
+use Rattle.std.specs.declared.cmp.Ordering.TheVariants.{Less, Equal, Greater}
 use Rattle.std.specs.Cmp.{IsTotalOrder, both_tied, first_so, second_so, unsigned_ties, unsigned_Decides}
 use Rattle.std.proofs.lemmas.Bool.{false≢true}
-use Rattle.std.proofs.lemmas.Cmp.{tied_itself, then_total, on_total, nat_cmp_total}
-use Rattle.std.proofs.lemmas.List.{take_more, take_all, map_more, map_push}
+use Rattle.std.proofs.lemmas.Bool.Decides.{Decides-eqb, nat_tests}
+use Rattle.std.proofs.lemmas.Cmp.{ranked, tied_itself, then_total, on_total, nat_cmp_total}
+use Rattle.std.proofs.lemmas.List.{get_or-map, length-map, take_more, take_all, map_more, map_push}
 use Rattle.std.proofs.lemmas.List.Elements.{Contains-get_or, Contains-push, Contains-push_cases, Contains-append_left, All-contains}
 use Rattle.std.proofs.lemmas.List.Kept.{AllPairs-from_increasing}
 use Rattle.std.proofs.lemmas.Option.{slice_get_within, get_or_from_slice_get}
+use Rattle.druid_base.proofs.ListLemmas.{IsStrictlyIncreasing-first, IsStrictlyIncreasing-tail}
+use Rattle.druid_base.proofs.MemberLemmas.{Contains-later, Contains-map, Contains-map_back}
 use Rattle.druid_base.proofs.MovedLemmas.{StandAlone, alone-permutation}
 use Rattle.druid_query.specs.Asked.{Asked}
 use Rattle.druid_broker_scatter.specs.Plan.{Pair, asked_of, place_cmp}
-use Rattle.druid_broker_scatter.specs.Waiting.{Waiting, StandsOnce, IsOrdered, AreOrdered, StandsIn, at_cmp, place_of, pieces_of}
-use Rattle.druid_broker_scatter.proofs.StepLemmas.{own_keys, place_cmp-total}
+use Rattle.druid_broker_scatter.specs.Waiting.{Waiting, Found, Missed, StandsOnce, IsOrdered, AreOrdered, StandsIn, at_cmp, is_missed, missed_of, place_of, pieces_of, stays, stays_at}
+use Rattle.druid_broker_scatter.proofs.AskedLemmas.{own_keys, place_cmp-total}
 
 -- ---- orders
 
@@ -106,3 +111,73 @@ is_ordered order pairs k p w within at is ordered moved once = record {
 
 pub all_waiting : (pairs : List Pair) (waits : List Waiting) (k : ℕ) → length pairs ≤ k → pieces_of waits ≡ map (λ p. p.asked) (take k pairs) → pieces_of waits ≡ map (λ p. p.asked) pairs
 all_waiting pairs waits k over so_far = so_far ∙ ap (map (λ (p : Pair). p.asked)) (take_all k pairs over)
+
+-- ---- what an answer misses, by its node
+
+pub head_missed : (m : Missed) (missed : List Missed) (node : ℕ) → m.0 ≡ node → missed_of (m ∷ missed) node ≡ m.1
+head_missed m missed node same = ap (λ (b : Bool). cond b m.1 (missed_of missed node)) ((Decides-eqb m.0 node).1 same)
+
+pub tail_missed : (m : Missed) (missed : List Missed) (node : ℕ) → m.0 ≢ node → missed_of (m ∷ missed) node ≡ missed_of missed node
+tail_missed m missed node other = is (m.0 == node) refl
+  where
+    is : (b : Bool) → (m.0 == node) ≡ b → cond (m.0 == node) m.1 (missed_of missed node) ≡ missed_of missed node
+    is true e = absurd (other ((Decides-eqb m.0 node).0 e))
+    is false e = ap (λ (b : Bool). cond b m.1 (missed_of missed node)) e
+
+-- of a node that stands there
+pub found_at : {X : Type 0} (g : X → Missed) (xs : List X) (node i : ℕ) (x : X) → IsStrictlyIncreasing (map (λ (m : Missed). m.0) (map g xs)) → i < length xs → x ≡ get_or xs i x
+    → ((d : X) → nat_cmp (g (get_or xs i d)).0 node ≡ Equal) → missed_of (map g xs) node ≡ (g x).1
+found_at {X} g xs node i x up within is equal = at xs i up within is (ranked (g x).0 node Equal (sym (subst (λ (y : X). nat_cmp (g y).0 node ≡ Equal) (sym is) (equal x))))
+  where
+    at : (xs : List X) (i : ℕ) → IsStrictlyIncreasing (map (λ (m : Missed). m.0) (map g xs)) → i < length xs → x ≡ get_or xs i x → (g x).0 ≡ node → missed_of (map g xs) node ≡ (g x).1
+    at [] i up within is same = absurd (omega arith)
+    at (y ∷ xs) zero up within is same = head_missed (g y) (map g xs) node (ap (λ (z : X). (g z).0) (sym is) ∙ same) ∙ ap (λ (z : X). (g z).1) (sym is)
+    at (y ∷ xs) (suc i) up within is same =
+        let there : Contains xs x = (i, omega arith, sym is) in
+        let above = IsStrictlyIncreasing-first (g y).0 (map (λ (m : Missed). m.0) (map g xs)) (g x).0 up (Contains-map_back (λ (m : Missed). m.0) (map g xs) (g x) (Contains-map_back g xs x there)) in
+        tail_missed (g y) (map g xs) node (λ e. omega (arith, above, e, same)) ∙ at xs i (IsStrictlyIncreasing-tail (g y).0 (map (λ (m : Missed). m.0) (map g xs)) up) (omega arith) is same
+
+none_found : (missed : List Missed) (node : ℕ) → ((m : Missed) → Contains missed m → m.0 ≢ node) → missed_of missed node ≡ None
+none_found [] node apart = refl
+none_found (m ∷ missed) node apart = tail_missed m missed node (apart m (0, omega arith, refl)) ∙ none_found missed node (λ x c. apart x (Contains-later m missed x c))
+
+-- of a node that a search does not find
+pub not_found : {X : Type 0} (g : X → Missed) (xs : List X) (node i : ℕ) → IsStrictlyIncreasing (map (λ (m : Missed). m.0) (map g xs)) → IsBinarySearchResult (λ y. nat_cmp (g y).0 node) xs (Err i) → missed_of (map g xs) node ≡ None
+not_found {X} g xs node i up search' = none_found (map g xs) node (λ m c same.
+    let x = Contains-map g xs m c in
+    apart x.0 x.1 (ap (λ (m : Missed). m.0) x.2 ∙ same))
+  where
+    rank_up : (a b : ℕ) → a ≤ b → ordering_index (nat_cmp a node) ≤ ordering_index (nat_cmp b node)
+    rank_up a b h = grind (arith, nat_tests)
+
+    before_or : (k j : ℕ) → k ≤ j → (k < j) ⊎ (k ≡ j)
+    before_or k j h = grind arith
+
+    up_to : (k j : ℕ) (d : X) → k ≤ j → j < length xs → (g (get_or xs k d)).0 ≤ (g (get_or xs j d)).0
+    up_to k j d le within = elim (before_or k j le) [
+      | inl less ↦
+          let inside : k < length xs = omega arith in
+          let below = AllPairs-from_increasing (map (λ (m : Missed). m.0) (map g xs)) up k j (g d).0 less (omega (arith, within, length-map (map g xs) (λ (m : Missed). m.0), length-map xs g)) in
+          let first = get_or-map (λ (m : Missed). m.0) (map g xs) k (g d) (g d).0 (omega (arith, inside, length-map xs g)) ∙ ap (λ (m : Missed). m.0) (get_or-map g xs k d (g d) inside) in
+          let second = get_or-map (λ (m : Missed). m.0) (map g xs) j (g d) (g d).0 (omega (arith, within, length-map xs g)) ∙ ap (λ (m : Missed). m.0) (get_or-map g xs j d (g d) within) in
+          omega (arith, below, first, second)
+      | inr same ↦ let is = ap (λ (n : ℕ). (g (get_or xs n d)).0) same in omega (arith, is)
+    ]
+
+    part : IsPartitionPoint (λ y. nat_cmp (g y).0 node ≡ Less) (λ y. nat_cmp (g y).0 node ≡ Greater) xs i
+    part = search' (λ k j d le within. rank_up (g (get_or xs k d)).0 (g (get_or xs j d)).0 (up_to k j d le within))
+
+    sides : (k : ℕ) → (k < i) ⊎ (i ≤ k)
+    sides k = grind arith
+
+    apart : (x : X) → Contains xs x → (g x).0 ≡ node → ⊥
+    apart x c same = elim (sides c.0) [
+      | inl less ↦ let low = ranked (g (get_or xs c.0 x)).0 node Less (sym (part.0 c.0 x (omega arith) less)) in
+          let is = ap (λ (y : X). (g y).0) c.2 in omega (arith, low, is, same)
+      | inr more ↦ let high = ranked (g (get_or xs c.0 x)).0 node Greater (sym (part.1 c.0 x more c.1)) in
+          let is = ap (λ (y : X). (g y).0) c.2 in omega (arith, high, is, same)
+    ]
+
+-- whether the piece waits on, by what the exchange with its node misses
+pub stays_so : (round : ℕ) (missed : List Missed) (w : Waiting) (node : ℕ) (found : Option Found) → slice_get w.order round ≡ Some node → missed_of missed node ≡ found → is_missed found (place_of w.asked) ≡ stays round missed w
+stays_so round missed w node found at is = sym (ap (λ (o : Option ℕ). stays_at o missed (place_of w.asked)) at ∙ ap (λ (f : Option Found). is_missed f (place_of w.asked)) is)

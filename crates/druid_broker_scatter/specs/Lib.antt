@@ -7,3 +7,5 @@ pub mod Exact
 -- words of private contracts
 pub mod Planned
 pub mod Waiting
+pub mod Slices
+pub mod Exchanges

@@ -1,8 +1,8 @@
 -- Pieces that no answer gave yet, and what a round asks for: only proofs use this.
-use Rattle.std.specs.Prelude.{◌≡◌, ◌==◌, ◌+◌, ◌<◌, ◌⊎◌, ◌↔◌, ℕ, zero, suc, Bool, true, false, IsTrue, List, [], ◌∷◌, ◌++◌, map, filter, slice_get, Option, Some, None, Ok, Err, Result, Contains, Any, IfSome, IsSomeAnd}
+use Rattle.std.specs.Prelude.{◌≡◌, ◌==◌, ◌+◌, ◌<◌, ◌≤◌, ◌⊎◌, ◌↔◌, ℕ, Bool, true, false, cond, IsTrue, List, [], ◌∷◌, ◌++◌, length, map, filter, slice_get, Option, Some, None, Ok, Err, Result, Contains, Any, IfSome}
 use Rattle.std.specs.declared.cmp.Ordering.{Ordering}
 use Rattle.std.specs.Ordering.{nat_cmp, ordering_then}
-use Rattle.std.specs.List.Sorted.{IsPermutation, IsStrictlySortedBy}
+use Rattle.std.specs.List.Sorted.{IsPermutation, IsStrictlyIncreasing, IsStrictlySortedBy}
 use Rattle.druid_query.specs.Asked.{Asked}
 use Rattle.druid_query.specs.Query.{Query}
 use Rattle.druid_base.specs.Json.{ReadsAs}
@@ -17,7 +17,7 @@ use Rattle.druid_http_wire.specs.Messages.{IsResponse}
 use Rattle.druid_http_wire.specs.Written.{request_text}
 use Rattle.serde_json.specs.Data.{Data}
 use Rattle.druid_broker_scatter.specs.Plan.{Pair, place_cmp}
-use Rattle.druid_broker_scatter.specs.Gathered.{Exchange, AtOnePlace, Asks, Answers, IsLost, Gives, TellAll, AreAsked, sub_of, request_for}
+use Rattle.druid_broker_scatter.specs.Gathered.{Exchange, AtOnePlace, Asks, Answers, IsLost, Gives, Leads, TellAll, AreAsked, request_for}
 
 -- a piece, and the order in which its replicas are asked
 pub record Waiting : Type 0 where
@@ -39,12 +39,14 @@ has_turn round node w = is_node (slice_get w.order round) node
 abbrev pub wanted_of : ℕ → List Waiting → ℕ → List Asked
 wanted_of round left node = pieces_of (filter (has_turn round node) left)
 
--- the subquery for pieces, if there are any
-abbrev pub sub_if : Query → List Asked → Option SubQuery
-sub_if query [] = None
-sub_if query (a ∷ more) = Some (sub_of query (a ∷ more))
+-- what a node is asked for
+abbrev pub Ask : Type 0
+Ask = ℕ × List Asked
 
--- what a link gets for it
+abbrev pub ask_of : Exchange → Ask
+ask_of e = (e.node, e.asked)
+
+-- what a link gets for a subquery
 abbrev pub sub_request : SubQuery → List ℕ
 sub_request sub = request_text (request_for sub.query sub.asked)
 
@@ -77,16 +79,6 @@ MayLackMemory came = (came ≡ Err wire.Memory) ⊎ ((bytes body rest : List ℕ
 abbrev pub TellsNothing : SubQuery → List ℕ → Type 0
 TellsNothing sub bytes = (missing : List Asked) (groups : List Group) → Tells sub bytes missing groups → ⊥
 
--- the exchanges of a round: of this node and those after it, with each that was asked
-abbrev pub made_from : (ℕ → List Asked) → ℕ → List (Option Came) → List Exchange
-made_from wanted node [] = []
-made_from wanted node (None ∷ more) = made_from wanted (node + 1) more
-made_from wanted node (Some came ∷ more) = record { node = node; asked = wanted node; came = came } ∷ made_from wanted (node + 1) more
-
--- that round asked that node already
-abbrev pub IsPast : ℕ → ℕ → ℕ → ℕ → Type 0
-IsPast round node r n = (r < round) ⊎ ((r ≡ round) × (n < node))
-
 -- a node stands once in the order
 abbrev pub StandsOnce : List ℕ → Type 0
 StandsOnce order = (i j n : ℕ) → slice_get order i ≡ Some n → slice_get order j ≡ Some n → i ≡ j
@@ -111,22 +103,36 @@ pub record AreOrdered (order : List ℕ → List ℕ) (pairs : List Pair) (waits
 abbrev pub AsksAt : Exchange → Waiting → ℕ → Type 0
 AsksAt e w round = Contains e.asked w.asked × (slice_get w.order round ≡ Some e.node)
 
--- what was asked up to a round and a node, and what is still open
-pub record Holds (gives : Exchange → Asked → Type 0) (waits left : List Waiting) (round node : ℕ) (exchanges : List Exchange) : Type 0 where
-  pub left_are : (w : Waiting) → Contains left w ↔ (Contains waits w × ((e : Exchange) → Contains exchanges e → gives e w.asked → ⊥))
-  pub ordered : IsStrictlySortedBy place_cmp (pieces_of left)
+-- of each node the pieces that a round wants of it: of rising nodes, each of which is asked for something, and of all
+pub record IsRound (round : ℕ) (left : List Waiting) (asks : List Ask) : Type 0 where
+  pub rising : IsStrictlyIncreasing (map (λ ask. ask.0) asks)
+  pub each : (ask : Ask) → Contains asks ask → (ask.1 ≡ wanted_of round left ask.0) × (a : Asked) × Contains ask.1 a
+  pub all : (w : Waiting) (node : ℕ) → Contains left w → slice_get w.order round ≡ Some node → Contains (map (λ ask. ask.0) asks) node
+
+-- each node in an order has its link
+abbrev pub AreBelow : ℕ → List Waiting → Type 0
+AreBelow count waits = (w : Waiting) (node : ℕ) → Contains waits w → Contains w.order node → node < count
+
+-- what was asked before a round
+pub record AreAskedBefore (query : Query) (waits : List Waiting) (round : ℕ) (exchanges : List Exchange) : Type 0 where
   pub planned : (e : Exchange) (a : Asked) → Contains exchanges e → Contains e.asked a
-      → (w : Waiting) × (r : ℕ) × Contains waits w × (w.asked ≡ a) × (slice_get w.order r ≡ Some e.node) × IsPast round node r e.node
+      → (w : Waiting) × (r : ℕ) × Contains waits w × (w.asked ≡ a) × (slice_get w.order r ≡ Some e.node) × (r < round)
   pub asks : (e : Exchange) → Contains exchanges e → (a : Asked) × Contains e.asked a
   pub in_order : (e : Exchange) → Contains exchanges e → IsStrictlySortedBy place_cmp e.asked
-  pub done : (w : Waiting) (r n : ℕ) → Contains left w → slice_get w.order r ≡ Some n → IsPast round node r n
-      → (e : Exchange) × Contains exchanges e × Asks e w.asked n
   pub asked_once : (a : Asked) (n : ℕ) → AtOnePlace exchanges (λ x y. Asks x a n × Asks y a n)
   pub by_round : (i j : ℕ) (x y : Exchange) (v w : Waiting) (r s : ℕ) → i < j → slice_get exchanges i ≡ Some x → slice_get exchanges j ≡ Some y
-      → Contains waits v → Contains waits w → AsksAt x v r → AsksAt y w s → IsPast s y.node r x.node
+      → Contains waits v → Contains waits w → AsksAt x v r → AsksAt y w s → (r < s) ⊎ ((r ≡ s) × (x.node < y.node))
   pub in_turn : (i : ℕ) (e : Exchange) (w : Waiting) (r s n : ℕ) → slice_get exchanges i ≡ Some e → Contains waits w → AsksAt e w r → s < r → slice_get w.order s ≡ Some n
-      → (j : ℕ) × (d : Exchange) × (j < i) × (slice_get exchanges j ≡ Some d) × Asks d w.asked n × (gives d w.asked → ⊥)
-  pub given_once : (a : Asked) → AtOnePlace exchanges (λ x y. gives x a × gives y a)
+      → (j : ℕ) × (d : Exchange) × (j < i) × (slice_get exchanges j ≡ Some d) × Asks d w.asked n × (Gives query d w.asked → ⊥)
+
+-- and what is still open then
+pub record Holds (query : Query) (waits left : List Waiting) (round : ℕ) (exchanges : List Exchange) : Type 0 where
+  pub asked : AreAskedBefore query waits round exchanges
+  pub left_are : (w : Waiting) → Contains left w ↔ (Contains waits w × ((e : Exchange) → Contains exchanges e → Gives query e w.asked → ⊥))
+  pub ordered : IsStrictlySortedBy place_cmp (pieces_of left)
+  pub done : (w : Waiting) (r n : ℕ) → Contains left w → slice_get w.order r ≡ Some n → r < round
+      → (e : Exchange) × Contains exchanges e × Asks e w.asked n
+  pub given_once : (a : Asked) → AtOnePlace exchanges (λ x y. Gives query x a × Gives query y a)
 
 -- what waits, and what was answered so far
 pub record State : Type 0 where
@@ -152,52 +158,41 @@ Found = ℕ × ℕ → Bool
 abbrev pub TellsPlaces : Found → List Asked → Type 0
 TellsPlaces found asked = (p : ℕ × ℕ) → IsTrue (found p) ↔ StandsIn asked p
 
+-- with which node, and where the pieces stand that its answer misses, where it gave one
+abbrev pub Missed : Type 0
+Missed = ℕ × Option Found
+
+-- the same of a node among several
+abbrev pub missed_of : List Missed → ℕ → Option Found
+missed_of [] node = None
+missed_of (m ∷ missed) node = cond (m.0 == node) m.1 (missed_of missed node)
+
 -- a piece waits on, of a node that did not answer, or whose answer misses it
-abbrev pub is_missed : Option (Option Found) → ℕ × ℕ → Bool
+abbrev pub is_missed : Option Found → ℕ × ℕ → Bool
 is_missed None place = true
-is_missed (Some None) place = true
-is_missed (Some (Some found)) place = found place
+is_missed (Some found) place = found place
 
--- the same by what the round's answers miss, place by place; of no node too
-abbrev pub stays_at : Option ℕ → List (Option Found) → ℕ × ℕ → Bool
+-- the same by what a round's answers miss; of no node too
+abbrev pub stays_at : Option ℕ → List Missed → ℕ × ℕ → Bool
 stays_at None missed place = true
-stays_at (Some node) missed place = is_missed (slice_get missed node) place
+stays_at (Some node) missed place = is_missed (missed_of missed node) place
 
-abbrev pub stays : ℕ → List (Option Found) → Waiting → Bool
+abbrev pub stays : ℕ → List Missed → Waiting → Bool
 stays round missed w = stays_at (slice_get w.order round) missed (place_of w.asked)
-
--- one piece more is asked of a node, if it has a place
-abbrev pub pushed : List (List Asked) → ℕ → Asked → List (List Asked)
-pushed [] node a = []
-pushed (asked ∷ more) zero a = (asked ++ a ∷ []) ∷ more
-pushed (asked ∷ more) (suc node) a = asked ∷ pushed more node a
-
--- of the node whose turn it is, if it is one's
-abbrev pub pushed_at : List (List Asked) → Option ℕ → Asked → List (List Asked)
-pushed_at slices None a = slices
-pushed_at slices (Some node) a = pushed slices node a
-
--- the subquery is one of the query, if there is one
-abbrev pub OfQuery : Query → Option SubQuery → Type 0
-OfQuery query None = Unit {0}
-OfQuery query (Some sub) = sub.query ≡ query
 
 -- ---- what was read of what came, whoever read it and whenever
 
--- of a node: where the pieces stand that its answer misses, and what it tells. Nothing, where it was not asked, or what came is lost
-abbrev pub IsRead : Option SubQuery → Option Came → Option Found → List Group → Type 0
-IsRead None None found rows = (found ≡ None) × (rows ≡ [])
-IsRead None (Some came) found rows = ⊥
-IsRead (Some sub) None found rows = ⊥
-IsRead (Some sub) (Some came) None rows = ((node : ℕ) → IsLost sub.query (exchange_of sub came node)) × (rows ≡ [])
-IsRead (Some sub) (Some came) (Some found) rows =
-    (missing : List Asked) × ((node : ℕ) → Answers sub.query (exchange_of sub came node) missing rows) × TellsPlaces found missing
+-- an exchange: it is lost, or it is an answer that tells these rows, and misses what stands at these places
+abbrev pub IsRead : Query → Exchange → Option Found → List Group → Type 0
+IsRead query e None rows = IsLost query e × (rows ≡ [])
+IsRead query e (Some found) rows = (missing : List Asked) × Answers query e missing rows × TellsPlaces found missing
 
--- of nodes, place by place
-abbrev pub AreRead : List (Option SubQuery) → List (Option Came) → List (Option Found) → List Group → Type 0
-AreRead [] [] [] rows = rows ≡ []
-AreRead (s ∷ subs) (c ∷ came) (f ∷ found) rows = (one back : List Group) × IsRead s c f one × AreRead subs came found back × (rows ≡ one ++ back)
-AreRead _ _ _ rows = ⊥
+-- exchanges, one after another
+abbrev pub AreRead : Query → List Exchange → List Missed → List Group → Type 0
+AreRead query [] [] rows = rows ≡ []
+AreRead query (e ∷ made) (m ∷ missed) rows =
+    (one back : List Group) × (m.0 ≡ e.node) × IsRead query e m.1 one × AreRead query made missed back × (rows ≡ one ++ back)
+AreRead query _ _ rows = ⊥
 
 -- a partial tells what these rows tell; without one there are no rows
 abbrev pub TellsIf : Query → List Group → Option Partial → Type 0
@@ -206,31 +201,53 @@ TellsIf query rows (Some p) = IsResult (kinds_of query) rows p.groups
 
 -- the partial is what all that was read tells. Where there is one, something came; and where there is none for want of memory, memory may
 -- have run out at one of the answers
-abbrev pub Reads : {F : Type 0} → Query → List (Option SubQuery) → List (Option Came) → List (Option Found) → Result (Option Partial) F → Type 0
-Reads query subs came found (Ok told) =
-    ((rows : List Group) × AreRead subs came found rows × TellsIf query rows told)
-    × IfSome told (λ p. IsPartialFor query p × Any (λ one. IsSomeAnd one MayLackMemory) came)
-Reads query subs came found (Err fault) = Any (λ one. IsSomeAnd one MayLackMemory) came
+abbrev pub Reads : {F : Type 0} → Query → List Exchange → List Missed → Result (Option Partial) F → Type 0
+Reads query made missed (Ok told) =
+    ((rows : List Group) × AreRead query made missed rows × TellsIf query rows told)
+    × IfSome told (λ p. IsPartialFor query p × Any (λ e. MayLackMemory e.came) made)
+Reads query made missed (Err fault) = Any (λ e. MayLackMemory e.came) made
 
--- the same of one node
-abbrev pub ReadsOne : {F : Type 0} → Query → Option SubQuery → Option Came → Option Found → Result (Option Partial) F → Type 0
-ReadsOne query sub came found r = Reads query (sub ∷ []) (came ∷ []) (found ∷ []) r
+-- what is read of both halves is what is read of both together
+abbrev pub BothRead : {F : Type 0} → Query → Result (Option Partial) F → Result (Option Partial) F → Result (Option Partial) F → Type 0
+BothRead query left right result =
+    (s t : List Exchange) (m n : List Missed) → Reads query s m left → Reads query t n right → Reads query (s ++ t) (m ++ n) result
+
+-- ---- over links
+
+-- the nodes that are asked rise, and each has its link among so many, of which the first is that of this node
+pub record HaveLinks (first count : ℕ) (asks : List Ask) : Type 0 where
+  pub rising : IsStrictlyIncreasing (map (λ ask. ask.0) asks)
+  pub each : (ask : Ask) → Contains asks ask → (first ≤ ask.0) × (ask.0 < first + count)
+
+-- the exchanges led the links so, of which the first is that of this node
+pub record AreLed {L : Type 0} (step : L → List ℕ → Came → L → Type 0) (query : Query) (first : ℕ) (made : List Exchange) (old new : List L) : Type 0 where
+  pub count : length new ≡ length old
+  pub each : (i : ℕ) (a b : L) → slice_get old i ≡ Some a → slice_get new i ≡ Some b → Leads step query (first + i) made a b
+
+-- these asks were sent over the links, of which the first is that of this node, and read
+pub record AreSent {L F : Type 0} (step : L → List ℕ → Came → L → Type 0) (query : Query) (first : ℕ) (asks : List Ask) (old new : List L) (missed : List Missed) (result : Result (Option Partial) F) : Type 0 where
+  pub made : List Exchange
+  pub of : map ask_of made ≡ asks
+  pub led : AreLed step query first made old new
+  pub read : Reads query made missed result
+
+-- ---- round after round
 
 -- the state after these exchanges
-pub record IsState (query : Query) (waits : List Waiting) (state : State) (round node : ℕ) (exchanges : List Exchange) : Type 0 where
-  pub holds : Holds (Gives query) waits state.waiting round node exchanges
+pub record IsState (query : Query) (waits : List Waiting) (state : State) (round : ℕ) (exchanges : List Exchange) : Type 0 where
+  pub holds : Holds query waits state.waiting round exchanges
   pub rows : List Group
   pub reported : TellAll query exchanges rows
   pub merged : IsResult (kinds_of query) rows state.partial.groups
 
--- by these exchanges one state became the other, whatever came before
-abbrev pub Goes : Query → ℕ → ℕ → ℕ → State → State → List Exchange → Type 0
-Goes query round node next old new more =
+-- by these exchanges, those of a round, one state became the other, whatever came before
+abbrev pub Goes : Query → ℕ → State → State → List Exchange → Type 0
+Goes query round old new more =
     (order : List ℕ → List ℕ) (pairs : List Pair) (waits : List Waiting) (exchanges : List Exchange) → AreOrdered order pairs waits
-    → IsState query waits old round node exchanges → IsState query waits new round next (exchanges ++ more)
+    → IsState query waits old round exchanges → IsState query waits new (round + 1) (exchanges ++ more)
 
 -- these exchanges ask for what a round asks for in that state, whatever came before
 abbrev pub AsksOn : Query → ℕ → State → List Exchange → Type 0
 AsksOn query round old more =
     (order : List ℕ → List ℕ) (pairs : List Pair) (waits : List Waiting) (exchanges : List Exchange) → AreOrdered order pairs waits
-    → IsState query waits old round 0 exchanges → AreAsked order query pairs (exchanges ++ more)
+    → IsState query waits old round exchanges → AreAsked order query pairs (exchanges ++ more)

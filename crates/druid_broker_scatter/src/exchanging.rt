@@ -1,26 +1,25 @@
 //! The exchanges of a round, each read on the thread that makes it, and what they tell, merged by pairs on those threads.
 ghost use denote.Param.Send.{IsSync, IsSend};
-ghost use Rattle.std.specs.Prelude.{◌≡◌, ◌⊎◌, ◌++◌, ℕ, List, length, map, option_map, All, vec_len, Option, IsSome, IfOk, IfSome, IfNone, OnErr, IsSomeAnd, ◌∷◌, []};
+ghost use Rattle.std.specs.Prelude.{◌≡◌, ◌⊎◌, ◌++◌, ◌∷◌, [], ℕ, List, All, length, map, IsSome, IfOk, IfSome, IfNone, OnErr};
 ghost use Rattle.std.specs.BTreeSet.{contains};
 ghost use Rattle.druid_query.specs.Asked.{Asked};
 ghost use Rattle.druid_query.specs.Query.{Query};
-ghost use Rattle.druid_query.specs.SubQuery.{SubQuery};
 ghost use Rattle.druid_partial.specs.Groups.{Group, IsMerge, IsResult};
 ghost use Rattle.druid_partial.specs.Partials.{IsPartial, IsPartialFor, kinds_of};
 ghost use Rattle.druid_link.specs.Links.{Came, came_of};
 ghost use Rattle.druid_broker_scatter.specs.Gathered.{Answers, IsLost};
-ghost use Rattle.druid_broker_scatter.specs.Rounds.{AnswersOne, AreAnswered};
-ghost use Rattle.druid_broker_scatter.specs.Waiting.{Found, MayLackMemory, OfQuery, ReadsOne, Reads, TellsIf, TellsPlaces, at_cmp, exchange_of, sub_request};
+ghost use Rattle.druid_broker_scatter.specs.Exchanges.{ask_in, missed_in};
+ghost use Rattle.druid_broker_scatter.specs.Waiting.{AreSent, BothRead, HaveLinks, MayLackMemory, Reads, TellsIf, TellsPlaces, at_cmp, exchange_of, sub_request};
 
 use crate::GatherFault;
 use crate::answering::answer_of;
-use crate::requests::Ask;
+use crate::requests::Exchange;
 use crate::waiting::{Places, places_of};
 use druid_http_message::WireFault;
 use druid_link::Link;
 use druid_partial::{Partial, merge};
 use druid_query::{Query, SubQuery};
-use std::alloc::{AllocError, Global};
+use std::alloc::Global;
 use std::thread::{Threads, join_mut};
 
 // Where the pieces stand that the answer misses, and what it tells; None where what came is no answer.
@@ -48,30 +47,27 @@ fn read(
     Ok(Some((places, partial)))
 }
 
-// What a node's answer tells, if it is asked and answers; and where the pieces stand that the answer misses. The bytes are gone
-// when it returns.
+// What a node's answer tells, if it answers. The bytes are gone when it returns.
 fn ask_one<L: Link>(
     alloc: Global,
     query: &Query,
-    ask: &Option<Ask>,
+    exchange: &mut Exchange,
     link: &mut L,
-    missed: &mut Option<Places>,
 ) -> Result<Option<Partial>, GatherFault>
-    requires { IfSome ask.now (λ s. s.query ≡ query.now) }
-    ensures { (came : Option Came) × AnswersOne L.exchanges link.old (option_map sub_request ask.now) came link.new
-        × ReadsOne query.now ask.now came (option_map (contains at_cmp) missed.new) result }
+    requires { exchange.old.sub.query ≡ query.now }
+    ensures { (came : Came) × L.exchanges link.old (sub_request exchange.old.sub) came link.new
+        × Reads query.now (exchange_of exchange.old.sub came exchange.old.node ∷ []) (missed_in exchange.new ∷ []) result }
 {
-    *missed = None;
-    let Some(ask) = ask else {
-        return Ok(None);
-    };
-    let came = link.exchange(alloc, ask.bytes());
-    match read(alloc, ask.sub(), &came) {
+    let came = link.exchange(alloc, &exchange.bytes);
+    match read(alloc, &exchange.sub, &came) {
         Ok(Some((places, partial))) => {
-            *missed = Some(places);
+            exchange.missed = Some(places);
             Ok(Some(partial))
         }
-        Ok(None) => Ok(None),
+        Ok(None) => {
+            exchange.missed = None;
+            Ok(None)
+        }
         Err(fault) => Err(fault),
     }
 }
@@ -145,8 +141,7 @@ fn both(
 ) -> Result<Option<Partial>, GatherFault>
     requires left { IfOk left (λ p. IfSome p (IsPartialFor query.now)) }
     requires right { IfOk right (λ p. IfSome p (IsPartialFor query.now)) }
-    ensures { (s t : List (Option SubQuery)) (c d : List (Option Came)) (f g : List (Option Found)) → Reads query.now s c f left
-        → Reads query.now t d g right → Reads query.now (s ++ t) (c ++ d) (f ++ g) result }
+    ensures { BothRead query.now left right result }
 {
     match (left, right) {
         (Ok(left), Ok(right)) => merge_told(alloc, query, left, right),
@@ -155,66 +150,41 @@ fn both(
     }
 }
 
-// Whether one of them is there.
-fn has_ask(asks: &[Option<Ask>]) -> bool {
-    asks.iter().any(|ask| ask.is_some())
-}
-
-// Asks each node, place by place, and gives what the answers tell: the halves at once, the front one on a thread of its own, where
-// both have a node to ask. An answer is read on the thread that asked for it, and two halves are merged on the thread that waited
-// for both. Where the pieces stand that an answer misses goes to a place that is there already.
+// Makes the exchanges over the links, of which the first is that of node `first`, and gives what the answers tell: the halves at
+// once, the front one on a thread of its own. An answer is read on the thread that asked for it, and two halves are merged on the
+// thread that waited for both. Where the pieces stand that an answer misses goes to a place that is there already.
 pub(crate) fn ask_all<L: Link + Send, R: Threads + Sync>(
     rt: &R,
     alloc: &Global,
     query: &Query,
-    asks: &[Option<Ask>],
+    exchanges: &mut [Exchange],
     links: &mut [L],
-    missed: &mut [Option<Places>],
+    first: usize,
 ) -> Result<Option<Partial>, GatherFault>
-    requires asked { length links.old ≡ length asks.now }
-    requires room { length links.old ≡ length missed.old }
-    requires of_query { All (OfQuery query.now) asks.now }
-    ensures { (came : List (Option Came)) × AreAnswered L.exchanges links.old (map (option_map sub_request) asks.now) came links.new
-        × Reads query.now asks.now came (map (option_map (contains at_cmp)) missed.new) result }
+    requires linked { HaveLinks first (length links.old) (map ask_in exchanges.old) }
+    requires of_query { All (λ x. x.sub.query ≡ query.now) exchanges.old }
+    ensures { AreSent L.exchanges query.now first (map ask_in exchanges.old) links.old links.new (map missed_in exchanges.new) result }
 {
-    if links.is_empty() {
+    if exchanges.is_empty() {
         return Ok(None);
     }
-    if links.len() == 1 {
-        return ask_one(*alloc, query, &asks[0], &mut links[0], &mut missed[0]);
+    if exchanges.len() == 1 {
+        let place = exchanges[0].node as usize - first;
+        return ask_one(*alloc, query, &mut exchanges[0], &mut links[place]);
     }
-    let middle = links.len() / 2;
-    let (front_asks, back_asks) = asks.split_at(middle);
-    let (front_links, back_links) = links.split_at_mut(middle);
-    let (front_missed, back_missed) = missed.split_at_mut(middle);
-    if has_ask(front_asks) && has_ask(back_asks) {
-        let (left, right) = join_mut(
-            rt,
-            &mut || -> Result<Option<Partial>, GatherFault>
-                requires { IsSync R.row × IsSend L.row × (length front_links.now ≡ length front_asks.now) × (length front_links.now ≡ length front_missed.now) × All (OfQuery query.now) front_asks.now }
-                ensures { (came : List (Option Came)) × AreAnswered L.exchanges front_links.entry.now (map (option_map sub_request) front_asks.entry.now) came front_links.exit.now
-                    × Reads query.entry.now front_asks.entry.now came (map (option_map (contains at_cmp)) front_missed.exit.now) result }
-            { ask_all(rt, alloc, query, front_asks, front_links, front_missed) },
-            &mut || -> Result<Option<Partial>, GatherFault>
-                requires { IsSync R.row × IsSend L.row × (length back_links.now ≡ length back_asks.now) × (length back_links.now ≡ length back_missed.now) × All (OfQuery query.now) back_asks.now }
-                ensures { (came : List (Option Came)) × AreAnswered L.exchanges back_links.entry.now (map (option_map sub_request) back_asks.entry.now) came back_links.exit.now
-                    × Reads query.entry.now back_asks.entry.now came (map (option_map (contains at_cmp)) back_missed.exit.now) result }
-            { ask_all(rt, alloc, query, back_asks, back_links, back_missed) },
-        );
-        return both(*alloc, query, left, right);
-    }
-    let left = ask_all(rt, alloc, query, front_asks, front_links, front_missed);
-    let right = ask_all(rt, alloc, query, back_asks, back_links, back_missed);
+    let (front, back) = exchanges.split_at_mut(exchanges.len() / 2);
+    let next = back[0].node as usize;
+    let (front_links, back_links) = links.split_at_mut(next - first);
+    let (left, right) = join_mut(
+        rt,
+        &mut || -> Result<Option<Partial>, GatherFault>
+            requires { IsSync R.row × IsSend L.row × HaveLinks first (length front_links.now) (map ask_in front.now) × All (λ x. x.sub.query ≡ query.now) front.now }
+            ensures { AreSent L.exchanges query.entry.now first (map ask_in front.entry.now) front_links.entry.now front_links.exit.now (map missed_in front.exit.now) result }
+        { ask_all(rt, alloc, query, front, front_links, first) },
+        &mut || -> Result<Option<Partial>, GatherFault>
+            requires { IsSync R.row × IsSend L.row × HaveLinks next (length back_links.now) (map ask_in back.now) × All (λ x. x.sub.query ≡ query.now) back.now }
+            ensures { AreSent L.exchanges query.entry.now next (map ask_in back.entry.now) back_links.entry.now back_links.exit.now (map missed_in back.exit.now) result }
+        { ask_all(rt, alloc, query, back, back_links, next) },
+    );
     both(*alloc, query, left, right)
-}
-
-// So many places, with nothing there: made before anything is sent.
-pub(crate) fn no_places(alloc: Global, count: usize) -> Result<Vec<Option<Places>>, AllocError>
-    ensures { IfOk result (λ missed. vec_len missed ≡ count) }
-{
-    let mut missed = Vec::with_capacity(alloc, count)?;
-    for _ in 0..count {
-        missed.push(None)?;
-    }
-    Ok(missed)
 }

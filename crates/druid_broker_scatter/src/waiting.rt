@@ -1,9 +1,11 @@
 //! Pieces that wait for an answer.
-ghost use Rattle.std.specs.Prelude.{◌≡◌, ◌≤◌, Contains, IfOk, filter, length, map, option_map, slice_get};
-ghost use Rattle.std.specs.List.Sorted.{IsPermutation};
+ghost use Rattle.std.specs.Prelude.{◌≡◌, ◌≤◌, Contains, IfOk, filter, length, map, slice_get};
+ghost use Rattle.std.specs.List.Sorted.{IsPermutation, IsStrictlyIncreasing};
 ghost use Rattle.std.specs.BTreeSet.{contains};
+ghost use Rattle.druid_broker_scatter.specs.Exchanges.{missed_in};
 ghost use Rattle.druid_broker_scatter.specs.Waiting.{Waiting, StandsOnce, AreOrdered, TellsPlaces, stays, at_cmp, place_of, pieces_of};
 
+use crate::requests::Exchange;
 use crate::{Pair, Pick, Plan};
 use druid_query::SegmentSlice;
 use druid_segment_descriptor::NodeNo;
@@ -78,13 +80,10 @@ impl Waiting {
     }
 
     // The node that the round asks for it.
-    pub(crate) fn turn(&self, round: usize) -> Option<usize>
+    pub(crate) fn turn(&self, round: usize) -> Option<NodeNo>
         ensures { result ≡ slice_get self.now.order round }
     {
-        match self.order.get(round) {
-            Some(node) => Some(*node as usize),
-            None => None,
-        }
+        self.order.get(round).copied()
     }
 
     // How many nodes serve it.
@@ -145,23 +144,28 @@ pub(crate) fn places_of(alloc: Global, asked: &[SegmentSlice]) -> Result<Places,
 }
 
 // Whether a piece still waits: the round asked no node for it, or one that did not answer, or whose answer misses it.
-fn stays(piece: &Waiting, round: usize, missed: &[Option<Places>]) -> bool
-    ensures { result ≡ stays round (map (option_map (contains at_cmp)) missed.now) piece.now }
+fn stays(piece: &Waiting, round: usize, exchanges: &[Exchange]) -> bool
+    requires { IsStrictlyIncreasing (map (λ m. m.0) (map missed_in exchanges.now)) }
+    ensures { result ≡ stays round (map missed_in exchanges.now) piece.now }
 {
     let Some(node) = piece.turn(round) else {
         return true;
     };
-    match missed.get(node) {
-        Some(Some(places)) => places.contains(&place_of(piece.asked())),
-        _ => true,
+    let Ok(place) = exchanges.binary_search_by_key(&node, |exchange| exchange.node) else {
+        return true;
+    };
+    match &exchanges[place].missed {
+        Some(places) => places.contains(&place_of(piece.asked())),
+        None => true,
     }
 }
 
 // Lets go of what the round's answers gave: in one pass over what waits.
-pub(crate) fn keep_missed(waiting: &mut Vec<Waiting>, round: usize, missed: &[Option<Places>])
-    ensures { waiting.new.items ≡ filter (stays round (map (option_map (contains at_cmp)) missed.now)) waiting.old.items }
+pub(crate) fn keep_missed(waiting: &mut Vec<Waiting>, round: usize, exchanges: &[Exchange])
+    requires { IsStrictlyIncreasing (map (λ m. m.0) (map missed_in exchanges.now)) }
+    ensures { waiting.new.items ≡ filter (stays round (map missed_in exchanges.now)) waiting.old.items }
 {
-    waiting.retain(|piece| stays(piece, round, missed));
+    waiting.retain(|piece| stays(piece, round, exchanges));
 }
 
 pub(crate) fn into_pieces(

@@ -1,6 +1,6 @@
 use Rattle.std.proofs.Common.{◌≡◌, ℕ, sym, subst}
 use Rattle.druid_partial.specs.Partials.{IsPartialFor, kinds_of}
-use Rattle.druid_timeline_chunks.proofs.EditLemmas.{always_err}
+use Rattle.druid_base.proofs.ClauseLemmas.{always_err}
 use Rattle.druid_link.specs.Links.{came_of}
 use Rattle.druid_broker_scatter.specs.Gathered.{Answers}
 use Rattle.druid_broker_scatter.specs.Waiting.{exchange_of}

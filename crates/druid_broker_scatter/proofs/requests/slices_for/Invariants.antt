@@ -1,7 +1,10 @@
-use Rattle.std.proofs.Common.{◌≡◌, map, take}
-use Rattle.std.specs.List.{range_with_len}
+use Rattle.std.proofs.Common.{◌≡◌, ℕ, take}
+use Rattle.druid_broker_scatter.specs.Slices.{NoneEmpty, slices_of}
 use Rattle.druid_broker_scatter.specs.Waiting.{wanted_of}
 use Rattle.druid_broker_scatter.proofs.requests.slices_for.Given as goal
 
 abbrev pub invariant-loop-piece : goal.invariant-loop-piece
-invariant-loop-piece l = map (λ v. v.items) l.slices.items ≡ map (wanted_of l.round (take l.piece-index l.waiting)) (range_with_len 0 l.count)
+invariant-loop-piece l = record {
+  wanted : (n : ℕ) → slices_of l.slices n ≡ wanted_of l.round (take l.piece-index l.waiting) n;
+  none_empty : NoneEmpty l.slices;
+}

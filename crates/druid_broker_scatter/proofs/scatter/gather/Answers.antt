@@ -1,6 +1,7 @@
-use Rattle.std.proofs.Common.{arith, rules}
-use Rattle.druid_timeline_chunks.proofs.EditLemmas.{always_err}
-use Rattle.druid_broker_scatter.proofs.GatherLemmas.{leading_none, leading_more, leading_err, leading_made, none_asked, gathered_all}
+use Rattle.std.proofs.Common.{length, sym, subst, arith, rules}
+use Rattle.druid_base.proofs.ClauseLemmas.{always_err}
+use Rattle.druid_broker_scatter.specs.Waiting.{State, AreBelow}
+use Rattle.druid_broker_scatter.proofs.GatherLemmas.{below, leading_none, leading_more, leading_err, leading_made, none_asked, gathered_all}
 use Rattle.druid_broker_scatter.proofs.scatter.gather.Goals as goal
 
 pub returns-in_err-waiting-clause-err : goal.returns-in_err-waiting-clause-err
@@ -14,13 +15,16 @@ returns-in_err-empty-clause-err g c =
 pub loop-round-init : goal.loop-round-init
 loop-round-init g c = record {
   leading = leading_none g.L.Link.exchanges (g.P.Pick.orders c.args.pick.now c.args.turn) c.args.query.now c.args.plan.now c.new-gathering.result c.args.links.now;
+  linked = subst (λ (s : State). AreBelow (length c.args.links.now) s.waiting) (sym c.new-gathering.ensures)
+      (below (g.P.Pick.orders c.args.pick.now c.args.turn) (length c.args.links.now) c.args.plan.now c.in_ok-waiting.waiting.items c.requires c.in_ok-waiting.ensures);
   of_query = search rules;
 }
 
 pub loop-round-preserved : goal.loop-round-preserved
 loop-round-preserved g c = record {
   leading = leading_more g.L.Link.exchanges (g.P.Pick.orders c.args.pick.now c.args.turn) c.args.query.now c.args.plan.now c.new-gathering.result c.loop-round.gathering c.in_ok-gathering.gathering
-      c.loop-round.round c.args.links.now c.loop-round.links c.round.new.links c.requires c.loop-round.invariant.leading c.in_ok-gathering.ensures.ok;
+      c.loop-round.round c.args.links.now c.loop-round.links c.round.new.links c.loop-round.invariant.leading c.in_ok-gathering.ensures.ok;
+  linked = c.in_ok-gathering.ensures.linked;
   of_query = c.in_ok-gathering.ensures.of_query;
 }
 

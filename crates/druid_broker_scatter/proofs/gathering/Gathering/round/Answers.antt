@@ -1,51 +1,68 @@
-use Rattle.std.proofs.Common.{◌∙◌, refl, sym, ap, option_map, length, arith}
-use Rattle.std.specs.BTreeSet.{contains}
-use Rattle.druid_timeline_chunks.proofs.EditLemmas.{always_err}
-use Rattle.druid_broker_scatter.specs.Waiting.{State, at_cmp}
-use Rattle.druid_broker_scatter.proofs.AskedLemmas.{unsent}
-use Rattle.druid_broker_scatter.proofs.SettledLemmas.{asks_there, as_many_asks, asks_of_query, places_written, round_ok, round_lacks, merge_lacks}
+use Rattle.std.proofs.Common.{◌≡◌, ◌∙◌, length, map, refl, sym, ap, subst, arith, rules}
+use Rattle.std.specs.List.Sorted.{IsStrictlyIncreasing}
+use Rattle.druid_partial.specs.Groups.{IsResult}
+use Rattle.druid_partial.specs.Partials.{kinds_of}
+use Rattle.druid_base.proofs.ClauseLemmas.{always_err}
+use Rattle.druid_broker_scatter.specs.Exchanges.{ask_in, missed_in}
+use Rattle.druid_broker_scatter.specs.Waiting.{Missed, State, stays}
+use Rattle.druid_broker_scatter.proofs.SettledLemmas.{have_links, kept_by, merge_lacks, missed_rise, round_lacks, round_lent, round_ok, still_below, unsent, written_in}
 use Rattle.druid_broker_scatter.proofs.gathering.Gathering.round.Goals as goal
 
-pub ask_all-requires-clause-asked : goal.ask_all-requires-clause-asked
-ask_all-requires-clause-asked g c κs within =
-    let asks = asks_there c.args.query.now c.args.round (length c.args.links.now) c.args.self c.deref.result.now c.in_ok-asks.asks.items c.deref-2.result.now
-    (c.deref.ensures.value ∙ ap (λ (s : State). s.waiting) c.self.view_is) c.deref-2.ensures.value c.in_ok-asks.ensures in
-    sym (as_many_asks c.args.query.now c.args.round (length c.args.links.now) c.args.self c.deref-2.result.now asks)
+pub ask_all-requires-clause-linked : goal.ask_all-requires-clause-linked
+ask_all-requires-clause-linked g c κs within =
+    let lent : c.as_mut_slice.result.now ≡ c.in_ok-exchanges.exchanges.items = search rules in
+    let asks = map ask_in c.as_mut_slice.result.now in
+    let r = round_lent ask_in c.args.round c.args.self.waiting c.deref.result.now c.in_ok-exchanges.exchanges.items c.as_mut_slice.result.now (c.deref.ensures.value ∙ ap (λ (s : State). s.waiting) c.self.view_is) lent
+    c.in_ok-exchanges.ensures.round in
+    have_links c.args.round (length c.args.links.now) c.args.self.waiting asks r c.requires.linked
 
-pub ask_all-requires-clause-of_query : goal.ask_all-requires-clause-of_query
-ask_all-requires-clause-of_query g c κs within =
-    let asks = asks_there c.args.query.now c.args.round (length c.args.links.now) c.args.self c.deref.result.now c.in_ok-asks.asks.items c.deref-2.result.now
-    (c.deref.ensures.value ∙ ap (λ (s : State). s.waiting) c.self.view_is) c.deref-2.ensures.value c.in_ok-asks.ensures in
-    asks_of_query c.args.query.now c.args.round (length c.args.links.now) c.args.self c.deref-2.result.now asks
+pub keep_missed-requires : goal.keep_missed-requires
+keep_missed-requires g c =
+    let lent : c.as_mut_slice.result.now ≡ c.in_ok-exchanges.exchanges.items = search rules in
+    let asks = map ask_in c.as_mut_slice.result.now in
+    let r = round_lent ask_in c.args.round c.args.self.waiting c.deref.result.now c.in_ok-exchanges.exchanges.items c.as_mut_slice.result.now (c.deref.ensures.value ∙ ap (λ (s : State). s.waiting) c.self.view_is) lent
+    c.in_ok-exchanges.ensures.round in
+    let there = written_in g.L.Link.exchanges c.args.query.now ask_in missed_in c.args.links.now c.ask_all.new.links c.in_ok-exchanges.exchanges.len c.in_ok-exchanges.exchanges.items c.as_mut_slice.result.now
+    c.ask_all.new.exchanges c.deref-2.result.now c.in_ok-told.told c.in_ok-told.ensures (omega arith) lent c.deref-2.ensures.value in
+    subst (λ xs. IsStrictlyIncreasing (map (λ (m : Missed). m.0) (map missed_in xs))) (sym there)
+    (missed_rise g.L.Link.exchanges c.args.query.now c.args.round c.args.links.now c.ask_all.new.links c.args.self.waiting asks (map missed_in c.ask_all.new.exchanges) c.in_ok-told.told r c.in_ok-told.ensures)
 
 pub returns-clause-ok : goal.returns-clause-ok
 returns-clause-ok g c =
-    let asks = asks_there c.args.query.now c.args.round (length c.args.links.now) c.args.self c.deref.result.now c.in_ok-asks.asks.items c.deref-2.result.now
-    (c.deref.ensures.value ∙ ap (λ (s : State). s.waiting) c.self.view_is) c.deref-2.ensures.value c.in_ok-asks.ensures in
-    let many = as_many_asks c.args.query.now c.args.round (length c.args.links.now) c.args.self c.deref-2.result.now asks in
-    round_ok g.L.Link.exchanges c.args.query.now c.args.round (option_map (contains at_cmp)) c.args.links.now c.ask_all.new.links c.args.self c.deref-2.result.now c.ask_all.new.missed
-    c.deref-3.result.now c.in_ok-told.told c.settle.result asks c.in_ok-told.ensures
-    (places_written g.L.Link.exchanges c.args.query.now (option_map (contains at_cmp)) c.args.links.now c.ask_all.new.links c.deref-2.result.now c.in_ok-missed.missed.len
-    c.in_ok-missed.missed.items c.ask_all.new.missed c.deref-3.result.now c.in_ok-told.told c.in_ok-told.ensures (omega (arith, many, c.in_ok-missed.ensures)) (omega arith) c.deref-3.ensures.value)
-    c.settle.ensures.kept c.settle.ensures.merged
+    let lent : c.as_mut_slice.result.now ≡ c.in_ok-exchanges.exchanges.items = search rules in
+    let asks = map ask_in c.as_mut_slice.result.now in
+    let r = round_lent ask_in c.args.round c.args.self.waiting c.deref.result.now c.in_ok-exchanges.exchanges.items c.as_mut_slice.result.now (c.deref.ensures.value ∙ ap (λ (s : State). s.waiting) c.self.view_is) lent
+    c.in_ok-exchanges.ensures.round in
+    let there = written_in g.L.Link.exchanges c.args.query.now ask_in missed_in c.args.links.now c.ask_all.new.links c.in_ok-exchanges.exchanges.len c.in_ok-exchanges.exchanges.items c.as_mut_slice.result.now
+    c.ask_all.new.exchanges c.deref-2.result.now c.in_ok-told.told c.in_ok-told.ensures (omega arith) lent c.deref-2.ensures.value in
+    round_ok g.L.Link.exchanges c.args.query.now c.args.round c.args.links.now c.ask_all.new.links c.args.self (record { waiting = c.keep_missed.new.waiting.items; partial = c.in_ok-partial.partial }) asks
+    (map missed_in c.ask_all.new.exchanges) c.in_ok-told.told r c.in_ok-told.ensures
+    (kept_by missed_in c.args.round c.args.self.waiting _ c.keep_missed.new.waiting.items c.ask_all.new.exchanges c.deref-2.result.now (ap (λ (s : State). s.waiting) c.self.view_is) there c.keep_missed.ensures)
+    (λ a b h k. c.in_ok-partial.ensures.told a b (subst (λ (s : State). IsResult (kinds_of c.args.query.now) a s.partial.groups) (sym c.self.view_is) h) k)
 
-pub returns-clause-err : goal.returns-clause-err
-returns-clause-err g c =
-    let asks = asks_there c.args.query.now c.args.round (length c.args.links.now) c.args.self c.deref.result.now c.in_ok-asks.asks.items c.deref-2.result.now
-    (c.deref.ensures.value ∙ ap (λ (s : State). s.waiting) c.self.view_is) c.deref-2.ensures.value c.in_ok-asks.ensures in
-    merge_lacks g.L.Link.exchanges c.args.query.now c.args.round (option_map (contains at_cmp)) c.args.links.now c.ask_all.new.links c.args.self c.deref-2.result.now c.ask_all.new.missed
-    c.in_ok-told.told c.settle.result asks c.in_ok-told.ensures c.settle.ensures.err
+pub returns-clause-linked : goal.returns-clause-linked
+returns-clause-linked g c =
+    still_below (length c.args.links.now) (length c.ask_all.new.links) c.args.self.waiting c.keep_missed.new.waiting.items (stays c.args.round (map missed_in c.deref-2.result.now)) c.requires.linked
+    (kept_by missed_in c.args.round c.args.self.waiting _ c.keep_missed.new.waiting.items c.deref-2.result.now c.deref-2.result.now (ap (λ (s : State). s.waiting) c.self.view_is) refl c.keep_missed.ensures)
+    c.in_ok-told.ensures.led.count
 
-pub returns-in_err-asks-clause-err : goal.returns-in_err-asks-clause-err
-returns-in_err-asks-clause-err g c = always_err c.from_residual.result _ (unsent g.L.Link.exchanges c.args.query.now c.args.round c.args.self c.args.links.now c.args.links.now refl)
-
-pub returns-in_err-missed-clause-err : goal.returns-in_err-missed-clause-err
-returns-in_err-missed-clause-err g c =
-    always_err c.from_residual-in_err-missed.result _ (unsent g.L.Link.exchanges c.args.query.now c.args.round c.args.self c.args.links.now c.args.links.now refl)
+pub returns-in_err-exchanges-clause-err : goal.returns-in_err-exchanges-clause-err
+returns-in_err-exchanges-clause-err g c = always_err c.from_residual.result _ (unsent g.L.Link.exchanges c.args.query.now c.args.round c.args.self c.args.links.now)
 
 pub returns-in_err-told-clause-err : goal.returns-in_err-told-clause-err
 returns-in_err-told-clause-err g c =
-    let asks = asks_there c.args.query.now c.args.round (length c.args.links.now) c.args.self c.deref.result.now c.in_ok-asks.asks.items c.deref-2.result.now
-    (c.deref.ensures.value ∙ ap (λ (s : State). s.waiting) c.self.view_is) c.deref-2.ensures.value c.in_ok-asks.ensures in
+    let lent : c.as_mut_slice.result.now ≡ c.in_ok-exchanges.exchanges.items = search rules in
+    let asks = map ask_in c.as_mut_slice.result.now in
+    let r = round_lent ask_in c.args.round c.args.self.waiting c.deref.result.now c.in_ok-exchanges.exchanges.items c.as_mut_slice.result.now (c.deref.ensures.value ∙ ap (λ (s : State). s.waiting) c.self.view_is) lent
+    c.in_ok-exchanges.ensures.round in
     always_err c.from_residual-in_err-told.result _
-    (round_lacks g.L.Link.exchanges c.args.query.now c.args.round c.args.links.now c.ask_all.new.links c.args.self c.deref-2.result.now asks c.in_err-told.ensures)
+    (round_lacks g.L.Link.exchanges c.args.query.now c.args.round c.args.links.now c.ask_all.new.links c.args.self asks (map missed_in c.ask_all.new.exchanges) _ r c.in_err-told.ensures)
+
+pub returns-in_err-partial-clause-err : goal.returns-in_err-partial-clause-err
+returns-in_err-partial-clause-err g c =
+    let lent : c.as_mut_slice.result.now ≡ c.in_ok-exchanges.exchanges.items = search rules in
+    let asks = map ask_in c.as_mut_slice.result.now in
+    let r = round_lent ask_in c.args.round c.args.self.waiting c.deref.result.now c.in_ok-exchanges.exchanges.items c.as_mut_slice.result.now (c.deref.ensures.value ∙ ap (λ (s : State). s.waiting) c.self.view_is) lent
+    c.in_ok-exchanges.ensures.round in
+    always_err c.from_residual-in_err-partial.result _
+    (merge_lacks g.L.Link.exchanges c.args.query.now c.args.round c.args.links.now c.ask_all.new.links c.args.self asks (map missed_in c.ask_all.new.exchanges) c.in_ok-told.told r c.in_ok-told.ensures c.in_err-partial.ensures.err)
