@@ -78,12 +78,20 @@ slices_next held slices more s front back rest pieces n f b tells m before query
     ∙ ap (λ l. told ++ l) (sym (flat_map-append (counted_at query held) front back) ∙ ap (flat_map (counted_at query held)) ((λ i. f i ++ b i) ∙ take-append-drop n rest))
     ∙ before query
 
--- the result of pieces that a counted list is read as, where a result of the list is one of what was asked for
-pub read_result : (held : List Segment) (query : Query) (asked : List Asked) (placed read : List Placed) (groups : List Group)
+-- a result of slices of pieces is one of what was asked for
+pub slices_result : (held : List Segment) (query : Query) (asked : List Asked) (placed read : List Placed) (slices : List Slice) (groups : List Group)
     → ((query : Query) (groups : List Group) → IsResult (kinds_of query) (flat_map (counted_at query held) placed) groups → IsResult (kinds_of query) (counted_groups query held asked) groups)
-    → read ≡ placed → IsResult (kinds_of query) (flat_map (counted_at query held) read) groups → IsResult (kinds_of query) (counted_groups query held asked) groups
-read_result held query asked placed read groups counted is result =
-    counted query groups (subst (λ (pieces : List Placed). IsResult (kinds_of query) (flat_map (counted_at query held) pieces) groups) is result)
+    → read ≡ placed → ((query : Query) → flat_map (told_by query) slices ≡ flat_map (counted_at query held) read)
+    → IsResult (kinds_of query) (flat_map (told_by query) slices) groups → IsResult (kinds_of query) (counted_groups query held asked) groups
+slices_result held query asked placed read slices groups counted is told result =
+    counted query groups (subst (λ (rows : List Group). IsResult (kinds_of query) rows groups) (told query ∙ ap (flat_map (counted_at query held)) is) result)
+
+-- the result of slices that a list of them is read as
+pub read_result : (held : List Segment) (query : Query) (asked : List Asked) (slices read : List Slice) (groups : List Group)
+    → ((query : Query) (groups : List Group) → IsResult (kinds_of query) (flat_map (told_by query) slices) groups → IsResult (kinds_of query) (counted_groups query held asked) groups)
+    → read ≡ slices → IsResult (kinds_of query) (flat_map (told_by query) read) groups → IsResult (kinds_of query) (counted_groups query held asked) groups
+read_result held query asked slices read groups counted is result =
+    counted query groups (subst (λ (all : List Slice). IsResult (kinds_of query) (flat_map (told_by query) all) groups) is result)
 
 -- ---- missing pieces
 

@@ -3,7 +3,7 @@ ghost use Rattle.std.specs.Prelude.{◌≡◌, ◌<◌, ◌≤◌, List, length,
 ghost use Rattle.std.specs.List.{flat_map};
 ghost use Rattle.druid_query.specs.Asked.{Asked};
 ghost use Rattle.druid_partial.specs.Groups.{Group, IsResult};
-ghost use Rattle.druid_partial.specs.Partials.{kinds_of, IsPartialFor};
+ghost use Rattle.druid_partial.specs.Partials.{kinds_of};
 ghost use Rattle.druid_query.specs.Query.{Query};
 ghost use Rattle.druid_node.specs.Answers.{missing, IsAnswerOf};
 ghost use Rattle.druid_node.specs.Placed.{Placed, counted_at, IsWithin};
@@ -11,13 +11,12 @@ ghost use Rattle.druid_partial_scan.specs.Once.{counted_groups};
 ghost use Rattle.druid_partial_scan.specs.Told.{told_by};
 
 use crate::held::Held;
-use druid_partial::{Partial, merge};
-use druid_partial_scan::{Slice, partial_of_slices};
+use druid_partial_scan::{Slice, partial_of_slices, partial_on_threads};
 use druid_partial_text::NodeAnswer;
-use druid_query::{Query, SegmentSlice, SubQuery};
+use druid_query::{SegmentSlice, SubQuery};
 use druid_time::Interval;
 use std::alloc::{AllocError, Global};
-use std::thread::{Threads, join};
+use std::thread::Threads;
 
 // A thread is started for so many rows: to count them takes longer than to start it.
 const ROWS_OF_THREAD: usize = 2_000;
@@ -94,70 +93,6 @@ fn slices_of<'a>(
     Ok(slices)
 }
 
-// What pieces tell. The query is made ready for a segment once where its pieces stand together.
-fn partial_of_placed(
-    alloc: Global,
-    held: &Held,
-    query: &Query,
-    pieces: &[Placed],
-) -> Result<Partial, AllocError>
-    requires { All (IsWithin held.now) pieces.now }
-    ensures result { IfOk result (λ partial. IsResult (kinds_of query.now) (flat_map (counted_at query.now held.now) pieces.now) partial.groups) }
-    ensures of_query { IfOk result (IsPartialFor query.now) }
-{
-    let slices = slices_of(alloc, held, pieces)?;
-    partial_of_slices(alloc, query, &slices)
-}
-
-// How many of so many threads are worth their start for these pieces, of which each segment's rows count whole.
-fn threads_for(held: &Held, pieces: &[Placed], threads: usize) -> usize
-    requires { All (IsWithin held.now) pieces.now }
-{
-    let mut rows = 0usize;
-    for (place, _) in pieces {
-        rows = rows.saturating_add(held.at(*place).len());
-    }
-    threads.min(pieces.len()).min(rows / ROWS_OF_THREAD + 1)
-}
-
-// The same, counted on so many threads at most, this one among them. Each of the others counts its part alone, and this one, which
-// starts them, merges what they counted.
-fn partial_in_parts<R: Threads>(
-    rt: &R,
-    alloc: Global,
-    held: &Held,
-    query: &Query,
-    pieces: &[Placed],
-    threads: usize,
-) -> Result<Partial, AllocError>
-    requires { All (IsWithin held.now) pieces.now }
-    ensures result { IfOk result (λ partial. IsResult (kinds_of query.now) (flat_map (counted_at query.now held.now) pieces.now) partial.groups) }
-    ensures of_query { IfOk result (IsPartialFor query.now) }
-{
-    if threads <= 1 {
-        return partial_of_placed(alloc, held, query, pieces);
-    }
-    let rest = threads - 1;
-    let (front, back) = pieces.split_at(pieces.len() / threads);
-    let (left, right) = join(
-        rt,
-        || -> Result<Partial, AllocError>
-            requires { All (IsWithin held.now) front.now }
-            ensures { IfOk result (λ partial. IsResult (kinds_of query.entry.now) (flat_map (counted_at query.entry.now held.entry.now) front.entry.now) partial.groups
-                × IsPartialFor query.entry.now partial) }
-        { partial_of_placed(alloc, held, query, front) },
-        || -> Result<Partial, AllocError>
-            requires { All (IsWithin held.now) back.now }
-            ensures { IfOk result (λ partial. IsResult (kinds_of query.entry.now) (flat_map (counted_at query.entry.now held.entry.now) back.entry.now) partial.groups
-                × IsPartialFor query.entry.now partial) }
-        { partial_in_parts(rt, alloc, held, query, back, rest) },
-    );
-    match merge(alloc, left?, right?) {
-        Ok(both) => Ok(both),
-        Err(_) => Err(AllocError),
-    }
-}
-
 // The pieces whose segment is held, in order by segment and by time.
 fn sorted_in(alloc: Global, held: &Held, asked: &[SegmentSlice]) -> Result<Vec<Placed>, AllocError>
     ensures counted { IfOk result (λ placed. (query : Query) (groups : List Group)
@@ -168,6 +103,29 @@ fn sorted_in(alloc: Global, held: &Held, asked: &[SegmentSlice]) -> Result<Vec<P
     let mut placed = placed_in(alloc, held, asked)?;
     placed.sort_unstable_by_key(|(place, piece)| (*place, piece.start()));
     Ok(placed)
+}
+
+// The segments that are asked for and held, in order, each with the intervals of its pieces.
+fn slices_asked<'a>(
+    alloc: Global,
+    held: &'a Held,
+    asked: &[SegmentSlice],
+) -> Result<Vec<Slice<'a>>, AllocError>
+    ensures { IfOk result (λ slices. (query : Query) (groups : List Group)
+        → IsResult (kinds_of query) (flat_map (told_by query) slices.items) groups
+        → IsResult (kinds_of query) (counted_groups query held.now asked.now) groups) }
+{
+    let placed = sorted_in(alloc, held, asked)?;
+    slices_of(alloc, held, &placed)
+}
+
+// How many of so many threads are worth their start for these slices, of which each segment's rows count whole.
+fn threads_for(slices: &[Slice<'_>], threads: usize) -> usize {
+    let mut rows = 0usize;
+    for slice in slices {
+        rows = rows.saturating_add(slice.0.len());
+    }
+    threads.min(slices.len()).min(rows / ROWS_OF_THREAD + 1)
 }
 
 // The pieces whose segment is not held.
@@ -195,13 +153,13 @@ pub(crate) fn answer_of(
 ) -> Result<NodeAnswer, AllocError>
     ensures { IfOk result (IsAnswerOf held.now sub.now) }
 {
-    let placed = sorted_in(alloc, held, sub.asked())?;
-    let partial = partial_of_placed(alloc, held, sub.query(), &placed)?;
+    let slices = slices_asked(alloc, held, sub.asked())?;
+    let partial = partial_of_slices(alloc, sub.query(), &slices)?;
     let missing = missing_of(alloc, held, sub.asked())?;
     Ok(NodeAnswer::new(partial, missing))
 }
 
-// The same, counted on so many threads at most: on one more for each 2,000 rows, and on no more than there are pieces.
+// The same, counted on so many threads at most: on one more for each 2,000 rows, and on no more than there are segments.
 pub(crate) fn answer_in_parts<R: Threads>(
     rt: &R,
     alloc: Global,
@@ -211,9 +169,9 @@ pub(crate) fn answer_in_parts<R: Threads>(
 ) -> Result<NodeAnswer, AllocError>
     ensures { IfOk result (IsAnswerOf held.now sub.now) }
 {
-    let placed = sorted_in(alloc, held, sub.asked())?;
-    let threads = threads_for(held, &placed, threads);
-    let partial = partial_in_parts(rt, alloc, held, sub.query(), &placed, threads)?;
+    let slices = slices_asked(alloc, held, sub.asked())?;
+    let threads = threads_for(&slices, threads);
+    let partial = partial_on_threads(rt, alloc, sub.query(), &slices, threads)?;
     let missing = missing_of(alloc, held, sub.asked())?;
     Ok(NodeAnswer::new(partial, missing))
 }

@@ -1,13 +1,13 @@
 -- Filters whose names are looked up.
-use Rattle.std.proofs.Common.{◌≡◌, ◌∙◌, ℕ, ◌+◌, ◌<◌, List, [], ◌∷◌, ◌++◌, length, get_or, take, Bool, true, false, cond, ◌&&◌, ◌||◌, Option, Some, None, refl, sym, ap, String, Global, string_bytes, option_map}
+use Rattle.std.proofs.Common.{◌≡◌, ◌∙◌, ℕ, zero, suc, ◌+◌, ◌<◌, arith, List, [], ◌∷◌, ◌++◌, length, get_or, take, Bool, true, false, cond, ◌&&◌, ◌||◌, Option, Some, None, refl, sym, ap, String, Global, string_bytes, option_map}
 use Rattle.std.proofs.Common.{rules, Vec, Bor}
-use Rattle.std.specs.Prelude.{not, slice_get}
+use Rattle.std.specs.Prelude.{not, slice_get, IfSome}
 use Rattle.std.specs.Box.{box_value}
 use Rattle.std.specs.Global.{Box}
 use Rattle.std.specs.List.{list_any}
 use Rattle.druid_filter.specs.Filters.{has, has_among, is_not}
 use Rattle.druid_filter.specs.declared.filter.Filter.{Selector, Among as FilterAmong, Not as FilterNot, the_lemmas as filter_lemmas}
-use Rattle.druid_partial_scan.specs.declared.code_filter.CodeFilter.{Same, Is, Among, Not, the_lemmas as code_filter_lemmas}
+use Rattle.druid_partial_scan.specs.declared.code_filter.CodeFilter.{Same, Is, Among, All, Any, Not, the_lemmas as code_filter_lemmas}
 use Rattle.std.specs.Ordering.{is_eq}
 use Rattle.std.proofs.lemmas.Cmp.{nat_list_eq_equiv}
 use Rattle.std.proofs.lemmas.List.{take_more}
@@ -120,3 +120,47 @@ says_not inner = search (rules, filter_lemmas)
 -- it passes what the other does not
 pub not_passes : (value : List ℕ → Option (List ℕ)) (f : Filter) (inner : Box Filter) → f ≡ FilterNot inner → not (passes value (says (box_value inner))) ≡ passes value (says f)
 not_passes value f inner e = sym (ap (λ g. passes value (says g)) e ∙ ap (passes value) (says_not inner))
+
+-- ---- answers that are seen without a row
+
+and_false : (b : Bool) → (b && false) ≡ false
+and_false true = refl
+and_false false = refl
+
+or_true : (b : Bool) → (b || true) ≡ true
+or_true true = refl
+or_true false = refl
+
+pub all_hold_false : (ts : List CodeFilter) (i : ℕ) (t : CodeFilter) (row : ℕ) → i < length ts → holds (get_or ts i t) row ≡ false → all_hold ts row ≡ false
+all_hold_false [] i t row h e = absurd (omega (arith, h))
+all_hold_false (u ∷ ts) zero t row h e = ap (λ b. b && all_hold ts row) e
+all_hold_false (u ∷ ts) (suc i) t row h e = ap (λ b. holds u row && b) (all_hold_false ts i t row (omega (arith, h)) e) ∙ and_false (holds u row)
+
+pub any_holds_true : (ts : List CodeFilter) (i : ℕ) (t : CodeFilter) (row : ℕ) → i < length ts → holds (get_or ts i t) row ≡ true → any_holds ts row ≡ true
+any_holds_true [] i t row h e = absurd (omega (arith, h))
+any_holds_true (u ∷ ts) zero t row h e = ap (λ b. b || any_holds ts row) e
+any_holds_true (u ∷ ts) (suc i) t row h e = ap (λ b. holds u row || b) (any_holds_true ts i t row (omega (arith, h)) e) ∙ or_true (holds u row)
+
+-- one that always passes changes nothing
+pub all_hold_same : (ts : List CodeFilter) (i : ℕ) (t : CodeFilter) (row : ℕ) → i < length ts → holds (get_or ts i t) row ≡ true → all_hold (take (i + 1) ts) row ≡ all_hold (take i ts) row
+all_hold_same ts i t row h e = ap (λ l. all_hold l row) (take_more ts i t h) ∙ all_hold_push (take i ts) (get_or ts i t) row ∙ ap (λ b. all_hold (take i ts) row && b) e ∙ and_all _
+
+pub any_holds_same : (ts : List CodeFilter) (i : ℕ) (t : CodeFilter) (row : ℕ) → i < length ts → holds (get_or ts i t) row ≡ false → any_holds (take (i + 1) ts) row ≡ any_holds (take i ts) row
+any_holds_same ts i t row h e = ap (λ l. any_holds l row) (take_more ts i t h) ∙ any_holds_push (take i ts) (get_or ts i t) row ∙ ap (λ b. any_holds (take i ts) row || b) e ∙ or-false _
+
+holds_all : (inner : Vec CodeFilter Global) (row : ℕ) → holds (All inner) row ≡ all_hold inner.items row
+holds_all inner row = search (rules, code_filter_lemmas)
+
+holds_any : (inner : Vec CodeFilter Global) (row : ℕ) → holds (Any inner) row ≡ any_holds inner.items row
+holds_any inner row = search (rules, code_filter_lemmas)
+
+-- what answers the same
+pub always_of : (f g : ℕ → Bool) (known : Option Bool) → ((row : ℕ) → f row ≡ g row) → IfSome known (λ answer. (row : ℕ) → g row ≡ answer) → IfSome known (λ answer. (row : ℕ) → f row ≡ answer)
+always_of f g None same known = known
+always_of f g (Some answer) same known = λ row. same row ∙ known row
+
+pub all_constant_is : (t : CodeFilter) (inner : Vec CodeFilter Global) (ts : List CodeFilter) (known : Option Bool) → t ≡ All inner → ts ≡ inner.items → IfSome known (λ answer. (row : ℕ) → all_hold ts row ≡ answer) → IfSome known (λ answer. (row : ℕ) → holds t row ≡ answer)
+all_constant_is t inner ts known e same = always_of (holds t) (all_hold ts) known (λ row. ap (λ u. holds u row) e ∙ holds_all inner row ∙ ap (λ us. all_hold us row) (sym same))
+
+pub any_constant_is : (t : CodeFilter) (inner : Vec CodeFilter Global) (ts : List CodeFilter) (known : Option Bool) → t ≡ Any inner → ts ≡ inner.items → IfSome known (λ answer. (row : ℕ) → any_holds ts row ≡ answer) → IfSome known (λ answer. (row : ℕ) → holds t row ≡ answer)
+any_constant_is t inner ts known e same = always_of (holds t) (any_holds ts) known (λ row. ap (λ u. holds u row) e ∙ holds_any inner row ∙ ap (λ us. any_holds us row) (sym same))

@@ -84,7 +84,7 @@ none_from width (suc n) numbers = ap (λ l. None ∷ l) (none_from width n (drop
 
 -- ---- marks
 
-there_in : {X Y : Type 0} (f : X → Y) (o : Option X) → is_there o ≡ is_there (option_map f o)
+pub there_in : {X Y : Type 0} (f : X → Y) (o : Option X) → is_there o ≡ is_there (option_map f o)
 there_in f None = refl
 there_in f (Some x) = refl
 
@@ -124,7 +124,7 @@ joined_in : {K : Type 0} (kinds : List AggregatorKind) (xs ys : List (Option ℤ
 joined_in kinds xs ys None = refl
 joined_in kinds xs ys (Some k) = refl
 
-own_long : (i n width : ℕ) (numbers : List (Option ℤ)) → i < n → length numbers ≡ n * width → length (take width (drop (i * width) numbers)) ≡ width
+pub own_long : (i n width : ℕ) (numbers : List (Option ℤ)) → i < n → length numbers ≡ n * width → length (take width (drop (i * width) numbers)) ≡ width
 own_long i n width numbers h long =
     let a = cell_inside i n width h in
     let b = length-drop (i * width) numbers in

@@ -16,3 +16,5 @@ pub mod PutLemmas
 pub mod SparseLemmas
 pub mod TextLemmas
 pub mod SliceLemmas
+pub mod JoinedLemmas
+pub mod BothLemmas

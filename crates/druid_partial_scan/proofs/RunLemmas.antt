@@ -1,5 +1,5 @@
 -- Rows of one bucket after each other.
-use Rattle.std.proofs.Common.{◌≡◌, ◌∙◌, ◌≢◌, ℕ, zero, suc, ◌+◌, ◌<◌, ◌≤◌, List, [], ◌∷◌, length, map, get_or, Bool, true, false, cond, refl, sym, ap, subst, arith, ⊎_elim, ◌⊎◌, inl, inr}
+use Rattle.std.proofs.Common.{◌≡◌, ◌∙◌, ◌≢◌, ℕ, zero, suc, ◌+◌, ◌<◌, ◌≤◌, List, [], ◌∷◌, ◌++◌, length, map, get_or, Bool, true, false, cond, refl, sym, ap, subst, arith, ⊎_elim, ◌⊎◌, inl, inr}
 use Rattle.std.specs.Prelude.{filter, ◌&&◌, nat_le, nat_lt, ◌-◌}
 use Rattle.std.specs.Cmp.Lexicographic.{slice_cmp}
 use Rattle.std.proofs.lemmas.Bool.Decides.{nat_tests}
@@ -20,7 +20,9 @@ use Rattle.druid_segment_rows.specs.Segment.{Segment, row_at}
 use Rattle.druid_query.specs.Query.{Query}
 use Rattle.druid_partial.specs.Groups.{Key, Group, Occurs, value_cmp, key_cmp}
 use Rattle.druid_partial.specs.Partials.{bucket_of, kinds_of, HasNumbers, IsGroupFor}
-use Rattle.druid_partial_scan.specs.Rows.{is_asked, tells, counted_by}
+use Rattle.druid_partial_scan.specs.Rows.{is_asked, passes_if, tells, counted_by}
+use Rattle.druid_filter.specs.Filters.{value_in}
+use Rattle.std.specs.List.{flat_map}
 use Rattle.druid_partial_scan.specs.Scans.{Scan, counted_at, bucket_at, AreCounted, AreUpto, counted_upto, ComeBefore, HaveBucket, BucketsRise, AreApart}
 use Rattle.std.specs.Prelude.{unwrap_or}
 use Rattle.std.proofs.lemmas.Bool.{false_from_ne_true}
@@ -187,3 +189,20 @@ pub run_same : (scan : Scan) (bucket from to end : ℕ) → BucketsRise scan →
 run_same scan bucket from zero end rise p q h first last row low high = absurd (omega (arith, p))
 run_same scan bucket from (suc to) end rise p q h first last row low high =
     same_between scan bucket from to rise (omega (arith, q, h)) first (last to (omega arith)) row low (omega (arith, high))
+
+-- ---- where no row passes
+
+and_no : (a b : Bool) → b ≡ false → (a && b) ≡ false
+and_no true b e = e
+and_no false b e = refl
+
+pub none_counted : (scan : Scan) → ((row : ℕ) → row < length scan.segment.rows → passes_if (value_in scan.segment.fields.dimensions (row_at scan.segment row).dimensions) scan.query.filter ≡ false) → (pieces : List Extent) → flat_map (counted_by scan.query scan.segment) pieces ≡ []
+none_counted scan none [] = refl
+none_counted scan none (interval ∷ pieces) =
+    let rows = scan.segment.rows in
+    let asked : (row : ℕ) → row < length rows → is_asked scan.query interval scan.segment.fields (row_at scan.segment row) ≡ false = λ row h.
+    and_no (nat_le interval.start (row_at scan.segment row).time && nat_lt (row_at scan.segment row).time interval.end) _ (none row h) in
+    let one : counted_by scan.query scan.segment interval ≡ [] =
+    ap (λ l. map (tells scan.query scan.segment.fields) (filter (is_asked scan.query interval scan.segment.fields) l)) (sym (take_all (length rows) rows (omega arith)))
+    ∙ skip_to scan interval 0 (length rows) (omega arith) (omega arith) (λ row low high. asked row high) in
+    ap (λ l. l ++ flat_map (counted_by scan.query scan.segment) pieces) one ∙ none_counted scan none pieces

@@ -9,7 +9,7 @@ use Rattle.std.proofs.lemmas.List.{append-nil, take_more, get_or-map, length-map
 use Rattle.std.proofs.lemmas.List.Concat.{flat_map-append}
 use Rattle.druid_time.specs.Extent.{Extent}
 use Rattle.druid_partial_scan.specs.Rows.{is_asked, counted_by}
-use Rattle.std.proofs.lemmas.List.Elements.{All-nil, All-cons, All-head, All-tail}
+use Rattle.std.proofs.lemmas.List.Elements.{All-nil, All-head, All-tail}
 use Rattle.std.proofs.lemmas.Option.{slice_get-get_or}
 use Rattle.druid_base.proofs.OrderLemmas.{ordering_then-assoc, nat_cmp-lt, nat_cmp-gt}
 use Rattle.druid_base.proofs.ListLemmas.{slice_get-set}
@@ -19,13 +19,13 @@ use Rattle.druid_segment_rows.specs.Segment.{Segment, row_at}
 use Rattle.druid_segment_rows.specs.Columns.{value_at}
 use Rattle.druid_query.specs.Query.{Query}
 use Rattle.druid_query.specs.declared.aggregator.AggregatorKind.{AggregatorKind}
-use Rattle.druid_partial.specs.Groups.{Group, Key, AreWords, IsResult, value_cmp, key_cmp}
+use Rattle.druid_partial.specs.Groups.{Group, Key, AreWords, value_cmp, key_cmp}
 use Rattle.druid_partial.specs.Joined.{join_numbers, join_groups, put, merged}
-use Rattle.druid_partial.specs.Partials.{Partial, earliest, kinds_of, HasNumbers, IsPartial, IsPartialFor, IsGroupFor}
+use Rattle.druid_partial.specs.Partials.{earliest, kinds_of, HasNumbers, IsGroupFor}
 use Rattle.druid_partial_scan.specs.Places.{at_place, places_of}
 use Rattle.druid_partial_scan.specs.Cells.{Column, code_at, cell_from, room_from, IsColumn, AreColumns, Filled, Cells, join_into, filled_with}
 use Rattle.druid_partial_scan.specs.Scans.{Scan, counted_at, cell_at, counted_upto, AreCounted, HasRoom}
-use Rattle.druid_partial_scan.specs.Slices.{Texts, IsRising, IsCoded, AreCoded, room_over, IsOver, Fits, values_of, number_of, IsHeld, AreHeld, present, with_group, group_of, groups_held, Adds}
+use Rattle.druid_partial_scan.specs.Slices.{Texts, IsRising, IsCoded, AreCoded, room_over, IsOver, Fits, values_of, number_of, IsHeld, AreHeld, present, with_group, group_of, groups_held, Adds, IsTally}
 use Rattle.druid_partial.proofs.GroupLemmas.{key_same}
 use Rattle.druid_partial.proofs.MergedLemmas.{joined_length}
 use Rattle.druid_partial.proofs.JoinLemmas.{joined_words}
@@ -51,7 +51,7 @@ numbers_order (t ∷ ts) (x ∷ xs) (y ∷ ys) m n r p q =
     ∙ ordering_then-assoc (nat_cmp m n) (nat_cmp x y) rest
     ∙ ap (λ o. ordering_then (nat_cmp m n) (ordering_then o rest)) (sym (value_rank t x y (All-head IsRising t ts r) a b))
 
-held_order : (query : Query) (texts : Texts) (i j : ℕ) (g h : Group) → All IsRising texts → IsHeld query texts i g → IsHeld query texts j h → key_cmp g.key h.key ≡ nat_cmp i j
+pub held_order : (query : Query) (texts : Texts) (i j : ℕ) (g h : Group) → All IsRising texts → IsHeld query texts i g → IsHeld query texts j h → key_cmp g.key h.key ≡ nat_cmp i j
 held_order query texts i j g h rising a b =
     ap (λ o. ordering_then o (slice_cmp value_cmp g.key.values h.key.values)) (equal_is g.key.bucket h.key.bucket (a.bucket_is ∙ sym b.bucket_is))
     ∙ ap (λ l. slice_cmp value_cmp l h.key.values) a.values_are
@@ -263,16 +263,21 @@ none_held query texts n place c e = absurd (none n place c e)
     none (suc n) (suc place) c e = none n place c e
 
 -- all rows that were added to no groups
-pub added_all : (query : Query) (texts : Texts) (more : List Group) (n : ℕ) (old new : List (Option Group)) → old ≡ replicate n None → Adds query texts more old new → AreCounted query more (present new)
-added_all query texts more n old new e adds =
+pub added_all : (query : Query) (texts : Texts) (more : List Group) (n : ℕ) (old : List (Option Group)) (new : Cells Key) → old ≡ replicate n None → HasRoom query (room_over texts 1) new → Adds query texts more old (groups_held new.groups) → IsTally query texts more new
+added_all query texts more n old new e room adds =
     let H : List (Option Group) → Type 0 = AreHeld query texts in
     let C : List Group → Type 0 = AreCounted query [] in
-    adds.counted (subst H (sym e) (none_held query texts n)) []
-    (subst C (sym (ap present e ∙ none_present n)) (record {
-      result = no_rows (kinds_of query) [] refl;
-      numbers = All-nil (HasNumbers (kinds_of query));
-      each = All-nil (IsGroupFor query);
-    }))
+    let none = subst H (sym e) (none_held query texts n) in
+    record {
+      room = room;
+      held = adds.held none;
+      counted = adds.counted none []
+          (subst C (sym (ap present e ∙ none_present n)) (record {
+            result = no_rows (kinds_of query) [] refl;
+            numbers = All-nil (HasNumbers (kinds_of query));
+            each = All-nil (IsGroupFor query);
+          }));
+    }
 
 -- ---- a row in its cell, as it is put there
 
@@ -344,24 +349,3 @@ words_left o left rest l w = let P : List (Option Group) → Type 0 = λ cells. 
     by_case : (x : Option Group) → HaveWords (present (x ∷ rest)) → HaveWords (present rest)
     by_case None v = v
     by_case (Some g) v = All-tail (λ (h : Group). AreWords h.numbers) g (present rest) v
-
--- numbers of groups that were counted are of 64 bits
-pub counted_words : (query : Query) (rows groups : List Group) → AreCounted query rows groups → HaveWords groups
-counted_words query rows groups counted = each groups counted.numbers
-  where
-    each : (gs : List Group) → All (HasNumbers (kinds_of query)) gs → HaveWords gs
-    each [] a = All-nil (λ (h : Group). AreWords h.numbers)
-    each (g ∷ gs) a = All-cons (λ (h : Group). AreWords h.numbers) g gs (All-head (HasNumbers (kinds_of query)) g gs a).words (each gs (All-tail (HasNumbers (kinds_of query)) g gs a))
-
-pub counted_partial : (query : Query) (rows held groups : List Group) (kinds : List AggregatorKind) → kinds ≡ kinds_of query → groups ≡ held → AreCounted query rows held → IsPartial (record { kinds = kinds; groups = groups })
-counted_partial query rows held groups kinds k e counted =
-    let P : List AggregatorKind → Type 0 = λ ks. IsPartial (record { kinds = ks; groups = groups }) in
-    let Q : List Group → Type 0 = λ gs. IsPartial (record { kinds = kinds_of query; groups = gs }) in
-    subst P (sym k) (subst Q (sym e) (record { ordered = counted.result.ordered; numbers = counted.numbers }))
-
-pub partial_is : (query : Query) (rows held groups : List Group) (kinds : List AggregatorKind) (p : Partial) → kinds ≡ kinds_of query → groups ≡ held → p ≡ record { kinds = kinds; groups = groups } → AreCounted query rows held → IsResult (kinds_of query) rows p.groups × IsPartialFor query p
-partial_is query rows held groups kinds p k e is counted =
-    let same : p.groups ≡ held = ap (λ (q : Partial). q.groups) is ∙ e in
-    let R : List Group → Type 0 = λ gs. IsResult (kinds_of query) rows gs in
-    let F : List Group → Type 0 = λ gs. All (IsGroupFor query) gs in
-    (subst R (sym same) counted.result, record { kinds = ap (λ (q : Partial). q.kinds) is ∙ k; each = subst F (sym same) counted.each })

@@ -1,6 +1,6 @@
 -- Codes of a segment's texts and those of all segments.
 use Rattle.std.proofs.Common.{◌≡◌, ◌∙◌, ℕ, zero, suc, ◌+◌, ◌-◌, ◌<◌, ◌≤◌, List, [], ◌∷◌, ◌++◌, length, map, take, get_or, true, false, Option, Some, None, refl, sym, ap, subst, arith, Vec, Bor, Global, option_map}
-use Rattle.std.specs.Prelude.{IfSome, not, ◌==◌, slice_get}
+use Rattle.std.specs.Prelude.{not, ◌==◌, slice_get}
 use Rattle.std.specs.Str.{bytes_eq}
 use Rattle.std.specs.List.{AllByRecursion}
 use Rattle.std.specs.List.Sorted.{IsStrictlySortedBy}
@@ -125,16 +125,13 @@ coded_push segment (u ∷ us) [] ds t p c are one = absurd are
 coded_push segment (u ∷ us) (q ∷ qs) [] t p c are one = absurd are
 coded_push segment (u ∷ us) (q ∷ qs) (d ∷ ds) t p c are one = (are.0, coded_push segment us qs ds t p c are.1 one)
 
-pub coded_next : (segment : Segment) (lists : List (Vec (Bor (List ℕ)) Global)) (places : List (Option ℕ)) (i : ℕ) (l : Vec (Bor (List ℕ)) Global) (d p : Option ℕ) (cs more : List Column) (c : Column) → i < length lists → i < length places → l ≡ get_or lists i l → p ≡ get_or places i d → AreCoded segment (texts_in (take i lists)) (take i places) cs → IsCoded segment (borrowed_texts l.items) p c → more ≡ cs ++ c ∷ [] → AreCoded segment (texts_in (take (i + 1) lists)) (take (i + 1) places) more
-coded_next segment lists places i l d p cs more c h k ls ps are one e =
-    let f : Vec (Bor (List ℕ)) Global → List (List ℕ) = λ (v : Vec (Bor (List ℕ)) Global). borrowed_texts v.items in
-    let texts : texts_in (take (i + 1) lists) ≡ texts_in (take i lists) ++ borrowed_texts l.items ∷ [] =
-    ap texts_in (take_more lists i l h) ∙ map-append f (take i lists) (get_or lists i l ∷ []) ∙ ap (λ v. texts_in (take i lists) ++ f v ∷ []) (sym ls) in
+pub coded_next : (segment : Segment) (lists : List (Bor (List (Bor (List ℕ))))) (places : List (Option ℕ)) (i : ℕ) (l : Bor (List (Bor (List ℕ)))) (d p : Option ℕ) (cs more : List Column) (c : Column) → i < length lists → i < length places → p ≡ get_or places i d → AreCoded segment (texts_in (take i lists)) (take i places) cs → IsCoded segment (borrowed_texts (get_or lists i l).now) p c → more ≡ cs ++ c ∷ [] → AreCoded segment (texts_in (take (i + 1) lists)) (take (i + 1) places) more
+coded_next segment lists places i l d p cs more c h k ps are one e =
+    let f : Bor (List (Bor (List ℕ))) → List (List ℕ) = λ (v : Bor (List (Bor (List ℕ)))). borrowed_texts v.now in
+    let own = f (get_or lists i l) in
+    let texts : texts_in (take (i + 1) lists) ≡ texts_in (take i lists) ++ own ∷ [] =
+    ap texts_in (take_more lists i l h) ∙ map-append f (take i lists) (get_or lists i l ∷ []) in
     let P : Texts → Type 0 = λ ts. AreCoded segment ts (take (i + 1) places) more in
-    let Q : List (Option ℕ) → Type 0 = λ qs. AreCoded segment (texts_in (take i lists) ++ borrowed_texts l.items ∷ []) qs more in
-    let R : List Column → Type 0 = λ ds. AreCoded segment (texts_in (take i lists) ++ borrowed_texts l.items ∷ []) (take i places ++ p ∷ []) ds in
-    subst P (sym texts) (subst Q (sym (take_more places i d k ∙ ap (λ q. take i places ++ q ∷ []) (sym ps))) (subst R (sym e) (coded_push segment (texts_in (take i lists)) (take i places) cs (borrowed_texts l.items) p c are one)))
-
--- what is known of a value that is there
-pub if_some : {X : Type 0} (P : X → Type 0) (o : Option X) (x : X) → o ≡ Some x → IfSome o P → P x
-if_some {X = X} P o x e h = let Q : Option X → Type 0 = λ p. IfSome p P in subst Q e h
+    let Q : List (Option ℕ) → Type 0 = λ qs. AreCoded segment (texts_in (take i lists) ++ own ∷ []) qs more in
+    let R : List Column → Type 0 = λ ds. AreCoded segment (texts_in (take i lists) ++ own ∷ []) (take i places ++ p ∷ []) ds in
+    subst P (sym texts) (subst Q (sym (take_more places i d k ∙ ap (λ q. take i places ++ q ∷ []) (sym ps))) (subst R (sym e) (coded_push segment (texts_in (take i lists)) (take i places) cs own p c are one)))

@@ -10,7 +10,7 @@ use Rattle.druid_segment_rows.specs.Segment.{Segment, row_at}
 use Rattle.druid_partial.specs.Groups.{value_cmp}
 use Rattle.druid_partial_scan.specs.Places.{at_place}
 use Rattle.druid_query.specs.declared.aggregator.AggregatorKind.{AggregatorKind}
-use Rattle.druid_partial.specs.Joined.{joined}
+use Rattle.druid_partial.specs.Joined.{joined, join_numbers}
 use Rattle.druid_partial_scan.specs.declared.cells.Numbers.{Numbers}
 use Rattle.druid_partial_scan.specs.declared.cells.Numbers.TheVariants as numbers
 
@@ -121,6 +121,18 @@ joined_with kinds numbers old = option_map (λ g. (g.0, join_into kinds numbers 
 abbrev pub filled_with : {K : Type 0} → List AggregatorKind → K → List (Option ℤ) → Option (Filled K) → Filled K
 filled_with kinds kept numbers None = (kept, numbers)
 filled_with kinds kept numbers (Some g) = (g.0, join_into kinds numbers g.1)
+
+-- two groups of one cell as one, which is kept as the first was; one alone as it is
+abbrev pub joined_cell : {K : Type 0} → List AggregatorKind → Option (Filled K) → Option (Filled K) → Option (Filled K)
+joined_cell kinds None theirs = theirs
+joined_cell kinds (Some g) None = Some g
+joined_cell kinds (Some g) (Some h) = Some (g.0, join_numbers kinds g.1 h.1)
+
+-- the same cell by cell, as far as the second array goes
+abbrev pub joined_cells : {K : Type 0} → List AggregatorKind → List (Option (Filled K)) → List (Option (Filled K)) → List (Option (Filled K))
+joined_cells kinds [] ys = []
+joined_cells kinds (x ∷ xs) [] = x ∷ xs
+joined_cells kinds (x ∷ xs) (y ∷ ys) = joined_cell kinds x y ∷ joined_cells kinds xs ys
 
 -- where a row of each group is kept
 abbrev pub cell_of : Filled ℕ → Cell

@@ -1,8 +1,7 @@
 -- Groups of all rows that a query asks of several segments, in one array. Only proofs and private functions use this: what it
 -- means is in Groups.
-use Rattle.std.specs.Prelude.{◌≡◌, ℕ, ◌+◌, ◌*◌, ◌<◌, ◌≤◌, List, [], ◌∷◌, ◌++◌, length, map, slice_get, All, Vec, Option, Some, None, option_map, ⊤}
+use Rattle.std.specs.Prelude.{◌≡◌, ℕ, ◌+◌, ◌*◌, ◌<◌, ◌≤◌, List, [], ◌∷◌, ◌++◌, length, map, slice_get, All, Option, Some, None, option_map, ⊤}
 use Rattle.std.specs.Borrow.{Bor}
-use Rattle.std.specs.Global.{Global}
 use Rattle.std.specs.List.Sorted.{IsStrictlySortedBy}
 use Rattle.std.specs.Ordering.{nat_cmp}
 use Rattle.std.specs.Cmp.Lexicographic.{slice_cmp}
@@ -14,8 +13,8 @@ use Rattle.druid_query.specs.declared.aggregator.AggregatorKind.{AggregatorKind}
 use Rattle.druid_partial.specs.Groups.{Group, Key}
 use Rattle.druid_partial.specs.Partials.{earliest, kinds_of, HasNumbers}
 use Rattle.druid_partial_scan.specs.Places.{at_place, places_of}
-use Rattle.druid_partial_scan.specs.Cells.{Column, code_at, HasCode, join_into, Filled}
-use Rattle.druid_partial_scan.specs.Scans.{Scan, AreCounted}
+use Rattle.druid_partial_scan.specs.Cells.{Column, code_at, HasCode, join_into, Filled, Cells}
+use Rattle.druid_partial_scan.specs.Scans.{Scan, AreCounted, HasRoom}
 
 -- ---- values by codes of the query
 
@@ -26,8 +25,8 @@ Texts = List (List (List ℕ))
 abbrev pub borrowed_texts : List (Bor (List ℕ)) → List (List ℕ)
 borrowed_texts texts = map (λ (t : Bor (List ℕ)). t.now) texts
 
-abbrev pub texts_in : List (Vec (Bor (List ℕ)) Global) → Texts
-texts_in lists = map (λ (l : Vec (Bor (List ℕ)) Global). borrowed_texts l.items) lists
+abbrev pub texts_in : List (Bor (List (Bor (List ℕ)))) → Texts
+texts_in lists = map (λ (l : Bor (List (Bor (List ℕ)))). borrowed_texts l.now) lists
 
 abbrev pub IsRising : List (List ℕ) → Type 0
 IsRising texts = IsStrictlySortedBy (slice_cmp nat_cmp) texts
@@ -115,3 +114,9 @@ with_group kinds g (Some d) = record { key = d.key; numbers = join_into kinds g.
 pub record Adds (query : Query) (texts : Texts) (more : List Group) (old new : List (Option Group)) : Type 0 where
   pub held : AreHeld query texts old → AreHeld query texts new
   pub counted : AreHeld query texts old → (rows : List Group) → AreCounted query rows (present old) → AreCounted query (rows ++ more) (present new)
+
+-- the groups of these rows, each in its cell
+pub record IsTally (query : Query) (texts : Texts) (rows : List Group) (cells : Cells Key) : Type 0 where
+  pub room : HasRoom query (room_over texts 1) cells
+  pub held : AreHeld query texts (groups_held cells.groups)
+  pub counted : AreCounted query rows (present (groups_held cells.groups))

@@ -181,6 +181,64 @@ pub(crate) fn filter_of<'a>(
     }
 }
 
+// What marks say of each code: where none is set, that it is not among them.
+fn marked_constant(marks: &[bool]) -> Option<bool>
+    ensures { IfSome result (λ answer. (code : Option ℕ) → code_among code marks.now ≡ answer) }
+{
+    if marks.contains(&true) {
+        None
+    } else {
+        Some(false)
+    }
+}
+
+// What all of these answer together, as far as it is seen without a row.
+#[cycle(constant_of)]
+fn all_constant(code_filters: &[CodeFilter<'_>]) -> Option<bool>
+    ensures { IfSome result (λ answer. (row : ℕ) → all_hold code_filters.now row ≡ answer) }
+{
+    let mut constant = Some(true);
+    for code_filter in code_filters {
+        match constant_of(code_filter) {
+            Some(true) => {}
+            Some(false) => return Some(false),
+            None => constant = None,
+        }
+    }
+    constant
+}
+
+// What one of these at least answers.
+#[cycle(constant_of)]
+fn any_constant(code_filters: &[CodeFilter<'_>]) -> Option<bool>
+    ensures { IfSome result (λ answer. (row : ℕ) → any_holds code_filters.now row ≡ answer) }
+{
+    let mut constant = Some(false);
+    for code_filter in code_filters {
+        match constant_of(code_filter) {
+            Some(false) => {}
+            Some(true) => return Some(true),
+            None => constant = None,
+        }
+    }
+    constant
+}
+
+// What it answers of each row, where that is seen without a row.
+#[cycle(constant_of)]
+pub(crate) fn constant_of(code_filter: &CodeFilter<'_>) -> Option<bool>
+    ensures { IfSome result (λ answer. (row : ℕ) → holds code_filter.now row ≡ answer) }
+{
+    match code_filter {
+        CodeFilter::Same(answer) => Some(*answer),
+        CodeFilter::Is(_, _) => None,
+        CodeFilter::Among(_, marks) => marked_constant(marks),
+        CodeFilter::All(code_filters) => all_constant(code_filters),
+        CodeFilter::Any(code_filters) => any_constant(code_filters),
+        CodeFilter::Not(code_filter) => Some(!constant_of(code_filter)?),
+    }
+}
+
 fn has_code(codes: &[u32], row: usize, wanted: usize) -> bool
     ensures { result ≡ code_is (slice_get codes.now row) wanted }
 {

@@ -1,5 +1,6 @@
 //! What a segment tells a query.
 ghost use Rattle.std.specs.Prelude.{◌≡◌, ◌≢◌, ◌+◌, ◌<◌, ◌≤◌, ◌^◌, ◌∷◌, ◌++◌, [], ℕ, List, length, All, IfOk, IfSome, OnOk, IsTrue, slice_index_or};
+ghost use Rattle.druid_time.specs.Extent.{Extent};
 ghost use Rattle.druid_segment_rows.specs.Segment.{Segment, row_at};
 ghost use Rattle.druid_query.specs.Query.{Query};
 ghost use Rattle.druid_partial.specs.Groups.{AreWords, Group, IsResult};
@@ -14,7 +15,7 @@ ghost use Rattle.druid_partial_scan.specs.Slices.{texts_in, groups_held, AreCode
 ghost use Rattle.druid_partial_scan.specs.Scans.{counted_at, bucket_at, groups_in, groups_by, IsKept, IsJoined, IsJoinedBy, AreEntries, AreKept, AreCounted, AreUpto, AreCells, ComeBefore, HasRoom, HaveBucket, BucketsRise};
 
 use crate::cells::{Numbers, Sparse, enter_row, numbers_at};
-use crate::code_filter::{CodeFilter, filter_of, holds};
+use crate::code_filter::{CodeFilter, constant_of, filter_of, holds};
 use crate::column::{Column, cell_of, room_of};
 use crate::group_array::Cells;
 use crate::group_map::{GroupMap, add};
@@ -120,7 +121,7 @@ impl<'a> Scan<'a> {
         alloc: Global,
         query: &'a Query,
         segment: &'a Segment,
-        lists: &[Vec<&str>],
+        lists: &[&[&str]],
     ) -> Result<Option<Scan<'a>>, AllocError>
         requires long { length lists.now ≡ length query.now.dimensions }
         requires rising { All IsRising (texts_in lists.now) }
@@ -155,6 +156,19 @@ impl<'a> Scan<'a> {
         match &self.code_filter {
             Some(code_filter) => holds(code_filter, row),
             None => true,
+        }
+    }
+
+    // Whether it is seen without a row that none passes.
+    pub(crate) fn passes_none(&self) -> bool
+        ensures { IsTrue result → (pieces : List Extent) → flat_map (counted_by self.now.query self.now.segment) pieces ≡ [] }
+    {
+        let Some(code_filter) = &self.code_filter else {
+            return false;
+        };
+        match constant_of(code_filter) {
+            Some(answer) => !answer,
+            None => false,
         }
     }
 
@@ -527,6 +541,9 @@ impl<'a> Scan<'a> {
         ensures adds { OnOk result ((texts : Texts) → IsOver texts self.now
             → Adds self.now.query texts (flat_map (counted_by self.now.query self.now.segment) pieces.now) (groups_held cells.old.groups) (groups_held cells.new.groups)) }
     {
+        if self.passes_none() {
+            return Ok(());
+        }
         for interval in pieces {
             self.add_piece(alloc, *interval, cells)?;
         }
@@ -631,7 +648,7 @@ fn add_found(
 /// What the query tells of the rows of the segment that lie in the interval and pass its filter. Where
 /// instants rise, or there is one bucket, a row of a group that is there allocates nothing and costs one step, or,
 /// where the dimensions have many values beside the rows of its bucket, the logarithm of the number of groups; else
-/// it costs that and a key.
+/// it costs that and a key. No row is read where the segment has no value that the filter lets pass.
 ///
 /// # Errors
 ///
@@ -665,5 +682,9 @@ pub fn partial_over(
         IsResult (kinds_of query.now) (flat_map (counted_by query.now segment.now) pieces.now) partial.groups) }
     ensures of_query { IfOk result (IsPartialFor query.now) }
 {
-    Scan::new(alloc, query, segment)?.partial_of_all(alloc, pieces)
+    let scan = Scan::new(alloc, query, segment)?;
+    if scan.passes_none() {
+        return Partial::empty(alloc, query);
+    }
+    scan.partial_of_all(alloc, pieces)
 }

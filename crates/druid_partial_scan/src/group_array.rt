@@ -1,8 +1,10 @@
 //! Groups in an array, each at the number that the codes of its values make.
 ghost use Rattle.std.specs.Prelude.{◌≡◌, ◌<◌, ◌+◌, ◌-◌, ◌≤◌, ◌++◌, map, set, length, take, drop, All, Some, None, IfOk, OnOk, slice_index_or, replicate, option_map};
-ghost use Rattle.druid_partial_scan.specs.Cells.{number_from, HasNumber, join_into, joined_with, is_there};
+ghost use Rattle.druid_partial_scan.specs.Cells.{number_from, HasNumber, join_into, joined_with, is_there, joined_cell, joined_cells};
+ghost use Rattle.druid_partial.specs.Joined.{join_numbers};
 
 use crate::cells::{Numbers, join_row, number_at};
+use druid_partial::join_numbers;
 use druid_query::AggregatorKind;
 use std::alloc::{AllocError, Global};
 use std::marker::Model;
@@ -51,6 +53,32 @@ fn write_at(
     ensures { numbers.new ≡ take from numbers.old ++ map (number_from row) columns.now ++ drop to numbers.old }
 {
     write_row(columns, row, &mut numbers[from..to]);
+}
+
+// Joins numbers to those of a cell.
+fn join_numbers_at(
+    kinds: &[AggregatorKind],
+    more: &[Option<i64>],
+    numbers: &mut [Option<i64>],
+    from: usize,
+    to: usize,
+)
+    requires order { from ≤ to }
+    requires inside { to ≤ length numbers.now }
+    ensures { numbers.new ≡ take from numbers.old
+        ++ join_numbers kinds.now (take (to - from) (drop from numbers.old)) more.now ++ drop to numbers.old }
+{
+    join_numbers(kinds, &mut numbers[from..to], more);
+}
+
+// Writes numbers for those of a cell.
+fn write_numbers_at(more: &[Option<i64>], numbers: &mut [Option<i64>], from: usize, to: usize)
+    requires order { from ≤ to }
+    requires inside { to ≤ length numbers.now }
+    requires long { length more.now ≡ to - from }
+    ensures { numbers.new ≡ take from numbers.old ++ more.now ++ drop to numbers.old }
+{
+    numbers[from..to].copy_from_slice(more);
 }
 
 // Copies of the numbers of a cell.
@@ -165,6 +193,49 @@ impl<K: Drop> Cells<K> {
         write_at(columns, row, &mut self.numbers, from, to);
         self.kept[cell] = Some(kept);
         self.filled[cell] = true;
+    }
+
+    // Joins a group to that of a cell, which keeps what it has; where there is none, it is put there.
+    fn join_group(
+        &mut self,
+        kinds: &[AggregatorKind],
+        cell: usize,
+        kept: K,
+        numbers: &[Option<i64>],
+    )
+        requires cell { cell < length self.now.groups }
+        requires width { length numbers.now ≡ self.now.width }
+        ensures width { self.new.width ≡ self.old.width }
+        ensures groups { self.new.groups ≡ set self.old.groups cell
+            (joined_cell kinds.now (slice_index_or self.old.groups cell None) (Some (kept, numbers.now))) }
+    {
+        let from = cell * self.width;
+        let to = from + self.width;
+        if self.filled[cell] {
+            join_numbers_at(kinds, numbers, &mut self.numbers, from, to);
+            return;
+        }
+        write_numbers_at(numbers, &mut self.numbers, from, to);
+        self.kept[cell] = Some(kept);
+        self.filled[cell] = true;
+    }
+
+    // Joins the groups of other cells, of the same room, to those here.
+    pub(crate) fn join_cells(&mut self, kinds: &[AggregatorKind], other: Cells<K>)
+        requires width { other.width ≡ self.now.width }
+        requires room { length other.groups ≡ length self.now.groups }
+        ensures width { self.new.width ≡ self.old.width }
+        ensures groups { self.new.groups ≡ joined_cells kinds.now self.old.groups other.groups }
+    {
+        let width = other.width;
+        let numbers = other.numbers;
+        let mut others = other.kept;
+        for cell in 0..others.len() {
+            if let Some(kept) = others[cell].take() {
+                let from = cell * width;
+                self.join_group(kinds, cell, kept, &numbers[from..from + width]);
+            }
+        }
     }
 
     // Takes the group of a cell, if there is one.

@@ -10,10 +10,12 @@ mod group_map;
 mod key;
 mod laws;
 mod located;
+mod parts;
 mod slices;
 mod texts;
 
 pub use counting::{partial_of, partial_over};
 pub use laws::rows_are_counted_once;
+pub use parts::partial_on_threads;
 pub use slices::partial_of_slices;
 pub use texts::Slice;

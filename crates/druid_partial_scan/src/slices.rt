@@ -1,26 +1,26 @@
 //! What several segments tell a query. Where it has one bucket, the rows of all are counted into
-//! one array of groups.
+//! one array of groups, or one for each thread.
 ghost use Rattle.std.specs.Prelude.{◌≡◌, ◌<◌, ◌^◌, length, All, IfOk, IfSome, IsTrue};
 ghost use Rattle.std.specs.List.{flat_map};
 ghost use Rattle.druid_time.specs.declared.granularity.Granularity.TheVariants as granularity;
 ghost use Rattle.druid_partial.specs.Groups.{AreWords, Group, IsResult};
-ghost use Rattle.druid_partial.specs.Partials.{kinds_of, IsPartialFor};
-ghost use Rattle.druid_partial_scan.specs.Scans.{AreCounted, HasRoom};
-ghost use Rattle.druid_partial_scan.specs.Slices.{texts_in, room_over, groups_held, present, IsRising, Adds};
+ghost use Rattle.druid_partial.specs.Partials.{kinds_of, IsPartial, IsPartialFor};
+ghost use Rattle.druid_partial_scan.specs.Scans.{HasRoom};
+ghost use Rattle.druid_partial_scan.specs.Slices.{texts_in, room_over, groups_held, present, IsRising, Adds, IsTally};
 ghost use Rattle.druid_partial_scan.specs.Told.{told_by};
 
 use crate::code_filter::dimension_of;
 use crate::counting::{Scan, partial_over};
 use crate::group_array::Cells;
 use crate::key::Key;
-use crate::texts::{Slice, are_rising, room_over, texts_over};
+use crate::texts::{Slice, are_rising, lists_of, room_over, texts_over};
 use druid_partial::{Group, Partial, kinds_of, merge};
 use druid_query::Query;
 use druid_time::Granularity;
 use std::alloc::{AllocError, Global};
 
 // How many rows lie in the intervals.
-fn rows_asked(slices: &[Slice<'_>]) -> usize {
+pub(crate) fn rows_asked(slices: &[Slice<'_>]) -> usize {
     let mut rows: usize = 0;
     for slice in slices {
         for piece in &slice.1 {
@@ -55,7 +55,7 @@ fn has_one_bucket(query: &Query) -> bool
 
 // Whether it pays to put the texts of all segments together: there is one bucket, and a row at
 // least for each text.
-fn pays(query: &Query, slices: &[Slice<'_>]) -> bool
+pub(crate) fn pays(query: &Query, slices: &[Slice<'_>]) -> bool
     ensures { IsTrue result → query.now.granularity ≡ granularity.All }
 {
     if slices.len() < 2 || rows_asked(slices) < texts_held(query, slices) {
@@ -69,7 +69,7 @@ fn add_slice<'a>(
     alloc: Global,
     query: &'a Query,
     slice: &Slice<'a>,
-    lists: &[Vec<&str>],
+    lists: &[&[&str]],
     cells: &mut Cells<Key>,
 ) -> Result<bool, AllocError>
     requires one { query.now.granularity ≡ granularity.All }
@@ -93,7 +93,7 @@ fn add_slices<'a>(
     alloc: Global,
     query: &'a Query,
     slices: &[Slice<'a>],
-    lists: &[Vec<&str>],
+    lists: &[&[&str]],
     cells: &mut Cells<Key>,
 ) -> Result<bool, AllocError>
     requires one { query.now.granularity ≡ granularity.All }
@@ -114,29 +114,38 @@ fn add_slices<'a>(
     Ok(true)
 }
 
-// The groups of all rows, each in its cell. None where there are too many cells for these rows.
-fn cells_over<'a>(
+// How many cells codes of these texts make. None where an array of so many does not pay for the rows.
+pub(crate) fn room_for(lists: &[&[&str]], slices: &[Slice<'_>]) -> Option<usize>
+    ensures room { IfSome result (λ room. room ≡ room_over (texts_in lists.now) 1) }
+    ensures rising { IfSome result (λ room. All IsRising (texts_in lists.now)) }
+{
+    let room = room_over(lists)?;
+    // An array costs its room.
+    if room / 4 > rows_asked(slices).saturating_add(64) {
+        return None;
+    }
+    if !are_rising(lists) {
+        return None;
+    }
+    Some(room)
+}
+
+// The groups of all rows, each in its cell. None where a segment has a text that is not among these.
+pub(crate) fn tally<'a>(
     alloc: Global,
     query: &'a Query,
     slices: &[Slice<'a>],
+    lists: &[&[&str]],
+    room: usize,
 ) -> Result<Option<Cells<Key>>, AllocError>
-    requires { query.now.granularity ≡ granularity.All }
-    ensures { IfOk result (λ found. IfSome found (λ cells.
-        AreCounted query.now (flat_map (told_by query.now) slices.now) (present (groups_held cells.groups)))) }
+    requires one { query.now.granularity ≡ granularity.All }
+    requires long { length lists.now ≡ length query.now.dimensions }
+    requires rising { All IsRising (texts_in lists.now) }
+    requires room { room ≡ room_over (texts_in lists.now) 1 }
+    ensures { IfOk result (λ found. IfSome found (IsTally query.now (texts_in lists.now) (flat_map (told_by query.now) slices.now))) }
 {
-    let lists = texts_over(alloc, query, slices)?;
-    let Some(room) = room_over(&lists) else {
-        return Ok(None);
-    };
-    // An array costs its room.
-    if room / 4 > rows_asked(slices).saturating_add(64) {
-        return Ok(None);
-    }
-    if !are_rising(&lists) {
-        return Ok(None);
-    }
     let mut cells = Cells::new(alloc, room, query.aggregations().len())?;
-    let done = add_slices(alloc, query, slices, &lists, &mut cells)?;
+    let done = add_slices(alloc, query, slices, lists, &mut cells)?;
     if done {
         return Ok(Some(cells));
     }
@@ -157,6 +166,20 @@ fn closed(alloc: Global, mut cells: Cells<Key>) -> Result<Vec<Group>, AllocError
     Ok(groups)
 }
 
+// The partial of the groups that are in cells.
+pub(crate) fn partial_in(
+    alloc: Global,
+    query: &Query,
+    cells: Cells<Key>,
+) -> Result<Partial, AllocError>
+    requires { IsPartial (record { kinds = kinds_of query.now; groups = present (groups_held cells.groups) }) }
+    ensures { IfOk result (λ partial. partial ≡ record { kinds = kinds_of query.now; groups = present (groups_held cells.groups) }) }
+{
+    let groups = closed(alloc, cells)?;
+    let kinds = kinds_of(alloc, query)?;
+    Ok(Partial::new(kinds, groups))
+}
+
 // What all slices tell, counted at once. None where that does not pay.
 fn partial_at_once<'a>(
     alloc: Global,
@@ -168,12 +191,16 @@ fn partial_at_once<'a>(
         IsResult (kinds_of query.now) (flat_map (told_by query.now) slices.now) partial.groups)) }
     ensures of_query { IfOk result (λ found. IfSome found (IsPartialFor query.now)) }
 {
-    let Some(cells) = cells_over(alloc, query, slices)? else {
+    let texts = texts_over(alloc, query, slices)?;
+    let lists = lists_of(alloc, &texts)?;
+    let Some(room) = room_for(&lists, slices) else {
         return Ok(None);
     };
-    let groups = closed(alloc, cells)?;
-    let kinds = kinds_of(alloc, query)?;
-    Ok(Some(Partial::new(kinds, groups)))
+    let Some(cells) = tally(alloc, query, slices, &lists, room)? else {
+        return Ok(None);
+    };
+    let partial = partial_in(alloc, query, cells)?;
+    Ok(Some(partial))
 }
 
 fn partial_of_slice(alloc: Global, query: &Query, slice: &Slice<'_>) -> Result<Partial, AllocError>
@@ -186,7 +213,7 @@ fn partial_of_slice(alloc: Global, query: &Query, slice: &Slice<'_>) -> Result<P
 
 // What slices tell, each counted alone. They are halved, so that merges move each group a
 // logarithmic number of times.
-fn partial_in_halves(
+pub(crate) fn partial_in_halves(
     alloc: Global,
     query: &Query,
     slices: &[Slice<'_>],

@@ -102,6 +102,20 @@ pub(crate) fn texts_over<'a>(
     Ok(lists)
 }
 
+// The same lists, borrowed: of a thread's closure that captures vectors of borrowed texts, its caller knows nothing.
+pub(crate) fn lists_of<'b, 'a>(
+    alloc: Global,
+    texts: &'b [Vec<&'a str>],
+) -> Result<Vec<&'b [&'a str]>, AllocError>
+    ensures { IfOk result (λ lists. length lists.items ≡ length texts.now) }
+{
+    let mut lists = Vec::with_capacity(alloc, texts.len())?;
+    for list in texts {
+        lists.push(list.as_slice())?;
+    }
+    Ok(lists)
+}
+
 // Whether each text is above the one before it.
 fn is_rising(texts: &[&str]) -> bool
     ensures { IsTrue result → IsRising (borrowed_texts texts.now) }
@@ -115,7 +129,7 @@ fn is_rising(texts: &[&str]) -> bool
 }
 
 // Whether those of each list are.
-pub(crate) fn are_rising(lists: &[Vec<&str>]) -> bool
+pub(crate) fn are_rising(lists: &[&[&str]]) -> bool
     ensures { IsTrue result → All IsRising (texts_in lists.now) }
 {
     for texts in lists {
@@ -127,7 +141,7 @@ pub(crate) fn are_rising(lists: &[Vec<&str>]) -> bool
 }
 
 // How many numbers codes of these texts make. None where that is more than a word.
-pub(crate) fn room_over(lists: &[Vec<&str>]) -> Option<usize>
+pub(crate) fn room_over(lists: &[&[&str]]) -> Option<usize>
     ensures { IfSome result (λ room. room ≡ room_over (texts_in lists.now) 1) }
 {
     let mut room: usize = 1;
@@ -227,7 +241,7 @@ fn coded_column<'a>(
 pub(crate) fn coded_columns<'a>(
     alloc: Global,
     segment: &'a Segment,
-    lists: &[Vec<&str>],
+    lists: &[&[&str]],
     places: &[Option<usize>],
 ) -> Result<Option<Vec<Column<'a>>>, AllocError>
     requires places { All (IsPlace segment.now.fields) places.now }
@@ -236,7 +250,7 @@ pub(crate) fn coded_columns<'a>(
 {
     let mut columns = Vec::with_capacity(alloc, places.len())?;
     for index in 0..places.len() {
-        let Some(column) = coded_column(alloc, segment, &lists[index], places[index])? else {
+        let Some(column) = coded_column(alloc, segment, lists[index], places[index])? else {
             return Ok(None);
         };
         columns.push(column)?;

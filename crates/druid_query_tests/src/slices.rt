@@ -1,11 +1,11 @@
-//! Drawn segments of one query, counted at once, one by one and merged, and row by row.
+//! Drawn segments of one query, counted at once, on several threads, one by one and merged, and row by row.
 ghost use Rattle.druid_partial.specs.Partials.{IsPartialFor};
 
 use crate::drawn::{Draws, GRANULARITIES, INTERVALS, KINDS, NUMBERS, drawn_query, ms};
 use crate::partial::{both, segment};
 use crate::plain::{Drawn, Plain, add_rows, same_groups};
 use druid_partial::Partial;
-use druid_partial_scan::{Slice, partial_of_slices, partial_over};
+use druid_partial_scan::{Slice, partial_of_slices, partial_on_threads, partial_over};
 use druid_query::Query;
 use druid_segment_rows::Segment;
 use druid_time::Interval;
@@ -13,11 +13,14 @@ use std::alloc::Global;
 use std::collections::BTreeMap;
 use std::fmt::Write;
 use std::process::Abort;
+use std::thread::Threads;
 
 // How many draws a test makes.
 const DRAWS: u64 = 1_000;
 
 const WIDE: u64 = 100;
+
+const THREADS: [usize; 3] = [2, 3, 16];
 
 // ---- What is drawn
 
@@ -169,16 +172,24 @@ fn merged(rt: &impl Abort, alloc: Global, query: &Query, slices: &[Slice<'_>]) -
     whole
 }
 
-// How many groups these slices have. None where they have others in one of the three ways.
-fn groups_of(rt: &impl Abort, alloc: Global, drawn: &Drawn, slices: &[Slice<'_>]) -> Option<usize> {
+// How many groups these slices have. None where they have others in one of the four ways.
+fn groups_of<R: Abort + Threads>(
+    rt: &R,
+    alloc: Global,
+    drawn: &Drawn,
+    slices: &[Slice<'_>],
+    threads: usize,
+) -> Option<usize> {
     let plain = plain_of(rt, alloc, drawn, slices);
     let merged = merged(rt, alloc, &drawn.query, slices);
     let whole = partial_of_slices(alloc, &drawn.query, slices).expect(rt, "memory");
+    let joined = partial_on_threads(rt, alloc, &drawn.query, slices, threads).expect(rt, "memory");
     same_groups(rt, alloc, &plain, merged.groups())?;
-    same_groups(rt, alloc, &plain, whole.groups())
+    same_groups(rt, alloc, &plain, whole.groups())?;
+    same_groups(rt, alloc, &plain, joined.groups())
 }
 
-fn groups(rt: &impl Abort, alloc: Global, seed: u64) -> Option<usize> {
+fn groups<R: Abort + Threads>(rt: &R, alloc: Global, seed: u64) -> Option<usize> {
     let mut draws = Draws::new(seed);
     let segments = drawn_segments(rt, alloc, &mut draws);
     let slices = drawn_slices(rt, alloc, &mut draws, &segments);
@@ -189,7 +200,8 @@ fn groups(rt: &impl Abort, alloc: Global, seed: u64) -> Option<usize> {
     };
     let kind = draws.one(&KINDS, "@");
     let drawn = drawn_query(rt, alloc, &mut draws, kind, granularity);
-    groups_of(rt, alloc, &drawn, &slices)
+    let threads = draws.one(&THREADS, 2);
+    groups_of(rt, alloc, &drawn, &slices, threads)
 }
 
 // ---- Many dimensions
@@ -226,7 +238,7 @@ fn wide_segments(rt: &impl Abort, alloc: Global, draws: &mut Draws, count: u64) 
     segments
 }
 
-fn wide_groups(rt: &impl Abort, alloc: Global, seed: u64) -> Option<usize> {
+fn wide_groups<R: Abort + Threads>(rt: &R, alloc: Global, seed: u64) -> Option<usize> {
     let mut draws = Draws::new(seed);
     let count = draws.one(&COUNTS, 1);
     let segments = wide_segments(rt, alloc, &mut draws, count);
@@ -236,13 +248,14 @@ fn wide_groups(rt: &impl Abort, alloc: Global, seed: u64) -> Option<usize> {
     let names = many_names(rt, alloc, "\"", first, ASKED);
     let kind = format!(in alloc; "#,\"dimensions\":[{names}]").expect(rt, "memory");
     let drawn = drawn_query(rt, alloc, &mut draws, kind.as_str(), ("all", 0));
-    groups_of(rt, alloc, &drawn, &slices)
+    let threads = draws.one(&THREADS, 2);
+    groups_of(rt, alloc, &drawn, &slices, threads)
 }
 
 // ---- The tests
 
 // Asserts that the draws of that number are counted alike in all ways.
-fn assert_alike(rt: &impl Abort, alloc: Global, number: u64) {
+fn assert_alike<R: Abort + Threads>(rt: &R, alloc: Global, number: u64) {
     let first = number.wrapping_mul(DRAWS);
     let mut all = 0usize;
     for seed in first..first.wrapping_add(DRAWS) {

@@ -15,8 +15,8 @@ const RUNS: u64 = 3;
 
 const SEGMENTS: u64 = 6;
 
-// Each hour of a segment counts as all its rows where threads are started, so that most queries here are worth several.
-const ROWS: u64 = 400;
+// So many rows at most of a segment that most queries here are worth several threads.
+const ROWS: u64 = 1_600;
 
 // What is compared with one thread.
 const THREADS: [usize; 3] = [2, 3, 16];
@@ -42,7 +42,7 @@ const FILTERS: [&str; 7] = [
 // The milliseconds of a row after midnight: they rise, or do not.
 fn ms(draws: &mut Draws, rises: bool, row: u64) -> u64 {
     if rises {
-        row.wrapping_mul(215_999)
+        row.wrapping_mul(53_999)
     } else {
         draws.below(86_400_000)
     }

@@ -7,15 +7,16 @@ use crate::values::{day, descriptor};
 use druid_http_message::{Request, WireFault};
 use druid_http_wire::{read_request, read_response, request_bytes};
 use druid_partial::{Partial, kinds_of, merge};
-use druid_partial_scan::{partial_of, partial_of_slices, partial_over};
+use druid_partial_scan::{partial_of, partial_of_slices, partial_on_threads, partial_over};
 use druid_partial_text::{partial_text, result_text, shortfall_text};
 use druid_query::Query;
 use druid_segment_descriptor::Descriptor;
 use druid_segment_rows::{Numbers, Row, RowFault, Schema, Segment, SegmentBuilder};
 use druid_time::Instant;
 use http::Method;
-use std::alloc::Global;
+use std::alloc::{AllocError, Global};
 use std::process::Abort;
+use std::thread::Threads;
 
 fn schema(rt: &impl Abort, alloc: Global) -> Schema {
     let dimensions = vec![in alloc; text_of(rt, alloc, "d")].expect(rt, "memory");
@@ -247,21 +248,29 @@ fn partials(rt: &impl Abort, alloc: Global, query: &Query, segment: &Segment) {
     );
 }
 
+// Whether both groups are there, or memory ran out and the segment is as it was.
+fn is_counted(reported: &Result<Partial, AllocError>, segment: &Segment) -> bool {
+    match reported {
+        Ok(reported) => reported.groups().len() == 2,
+        Err(_) => segment.len() == 2,
+    }
+}
+
 // As many rows as texts, so that all are counted at once.
-fn slices(rt: &impl Abort, alloc: Global, query: &Query, segment: &Segment) {
+fn slices<R: Abort + Threads>(rt: &R, alloc: Global, query: &Query, segment: &Segment) {
     let front = vec![in alloc; day(rt)].expect(rt, "memory");
     let back = vec![in alloc; day(rt)].expect(rt, "memory");
     let slices = vec![in alloc; (segment, front), (segment, back)].expect(rt, "memory");
     begin(rt, alloc);
     let reported = end(rt, alloc, partial_of_slices(alloc, query, &slices));
-    assert_call(
+    assert_call(rt, "partial_of_slices", is_counted(&reported, segment));
+    begin(rt, alloc);
+    let reported = end(
         rt,
-        "partial_of_slices",
-        match &reported {
-            Ok(reported) => reported.groups().len() == 2,
-            Err(_) => segment.len() == 2,
-        },
+        alloc,
+        partial_on_threads(rt, alloc, query, &slices, 1),
     );
+    assert_call(rt, "partial_on_threads", is_counted(&reported, segment));
 }
 
 /// What a query tells of a segment.

@@ -5,6 +5,6 @@ use Rattle.druid_node.proofs.answering.answer_of.Goals as goal
 pub returns : goal.returns
 returns c =
     let counted =
-    read_result c.args.held.now c.query.result.now c.asked.result.now c.in_ok-placed.placed.items c.deref.result.now c.in_ok-partial.partial.groups
-    c.in_ok-placed.ensures.counted c.deref.ensures.value c.in_ok-partial.ensures.result in
+    read_result c.args.held.now c.query.result.now c.asked.result.now c.in_ok-slices.slices.items c.deref.result.now c.in_ok-partial.partial.groups
+    c.in_ok-slices.ensures c.deref.ensures.value c.in_ok-partial.ensures.result in
     search (counted, rules)

@@ -3,7 +3,7 @@ use Rattle.druid_partial_scan.specs.Scans.{Scan}
 use Rattle.druid_partial_scan.specs.Places.{places_of}
 use Rattle.druid_partial_scan.specs.Slices.{texts_in, room_over, groups_held, AreCoded}
 use Rattle.druid_partial_scan.specs.Cells.{room_from}
-use Rattle.druid_partial_scan.proofs.TextLemmas.{if_some}
+use Rattle.druid_base.proofs.ClauseLemmas.{if_some}
 use Rattle.druid_partial_scan.proofs.SliceLemmas.{room_at, room_coded, slice_adds}
 use Rattle.druid_partial_scan.proofs.slices.add_slice.Goals as goal
 

@@ -3,7 +3,8 @@ use Rattle.std.proofs.lemmas.List.{length-map}
 use Rattle.druid_segment_rows.specs.Rows.{texts_of}
 use Rattle.druid_segment_rows.specs.Columns.{AreCodes}
 use Rattle.druid_partial_scan.specs.Slices.{borrowed_texts, values_in, IsCoded}
-use Rattle.druid_partial_scan.proofs.TextLemmas.{table_column, if_some}
+use Rattle.druid_partial_scan.proofs.TextLemmas.{table_column}
+use Rattle.druid_base.proofs.ClauseLemmas.{if_some}
 use Rattle.druid_partial_scan.proofs.texts.coded_column.Goals as goal
 
 pub returns-in-Some-2 : goal.returns-in-Some-2

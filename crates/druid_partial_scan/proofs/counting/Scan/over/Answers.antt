@@ -4,7 +4,7 @@ use Rattle.druid_partial_scan.specs.Places.{places_of, IsPlace}
 use Rattle.druid_partial_scan.specs.Cells.{Column}
 use Rattle.druid_partial_scan.specs.Slices.{texts_in, AreCoded}
 use Rattle.druid_partial_scan.proofs.PlaceLemmas.{are_places}
-use Rattle.druid_partial_scan.proofs.TextLemmas.{if_some}
+use Rattle.druid_base.proofs.ClauseLemmas.{if_some}
 use Rattle.druid_partial_scan.proofs.SliceLemmas.{columns_coded}
 use Rattle.druid_partial_scan.proofs.counting.Scan.over.Goals as goal
 
