@@ -160,10 +160,6 @@ borrowed_chunk borrowed inside now (inr e) f = e ∙ f
 pub was_ok : {T E : Type 0} {r : Result T E} {x : T} → r ≡ Ok x → IsOk r
 was_ok {T} {E} {r} {x} e = subst (λ (s : Result T E). IsOk s) (sym e) refl
 
-pub always_err : {T E : Type 0} (r : Result T E) (P : Type 0) → P → OnErr r P
-always_err (Ok x) P p = tt
-always_err (Err e) P p = p
-
 -- no member serves a place of no members
 pub nothing_there : (ms : List Member) (p node : ℕ) → ms ≡ [] → HoldsPlace ms p node → ⊥
 nothing_there ms p node e (x, there, partition, at) = Contains-nil x (subst (λ (xs : List Member). Contains xs x) e there)

@@ -1,9 +1,8 @@
 -- A list of one.
-use Rattle.std.proofs.Common.{◌≡◌, ◌∙◌, ◌⊎◌, ◌↔◌, ℕ, Result, Ok, Err, List, [], ◌∷◌, map, refl, sym, ap, subst, inl, inr, arith}
+use Rattle.std.proofs.Common.{◌≡◌, ◌∙◌, ◌⊎◌, ◌↔◌, ℕ, List, [], ◌∷◌, map, refl, sym, ap, subst, inl, inr, arith}
 use Rattle.std.specs.Bool.{IsTrue}
 use Rattle.std.specs.List.{Contains}
 use Rattle.std.specs.List.Sorted.{IsStrictlyIncreasing}
-use Rattle.std.specs.Result.{OnErr}
 use Rattle.druid_base.proofs.MemberLemmas.{Contains-nil, Contains-cons, Contains-map}
 use Rattle.druid_timeline_members.specs.Slots.{Statement, Replica, Serves, EachOnce}
 
@@ -45,8 +44,3 @@ Serves-one n stated serves k = (
   λ there. ((n, stated), one-Contains (n, stated) (n, stated) refl, Contains-one n k there, serves),
   λ (r, there, at_k, _). one-Contains n k (ap (λ (x : Replica). x.0) (Contains-one (n, stated) r there) ∙ at_k),
 )
-
--- what holds at any rate holds where there is an error
-pub always_err : {T E : Type 0} (r : Result T E) (P : Type 0) → P → OnErr r P
-always_err (Ok x) P p = tt
-always_err (Err e) P p = p

@@ -5,7 +5,8 @@ use Rattle.std.specs.List.{Contains}
 use Rattle.std.specs.Result.{IfOk}
 use Rattle.std.specs.Bool.{IsTrue}
 use Rattle.druid_base.proofs.MemberLemmas.{Contains-nil}
-use Rattle.druid_timeline_members.proofs.OneLemmas.{Contains-one, one-Contains, always_err}
+use Rattle.druid_timeline_members.proofs.OneLemmas.{Contains-one, one-Contains}
+use Rattle.druid_base.proofs.ClauseLemmas.{always_err}
 use Rattle.druid_timeline_members.specs.Slots.{Statement, Replica, NoneEmpty}
 use Rattle.druid_timeline_members.proofs.SlotLemmas.{NoneEmpty-update, HasOne, HasOne-added}
 use Rattle.druid_timeline_members.proofs.members.add_member.Goals as goal

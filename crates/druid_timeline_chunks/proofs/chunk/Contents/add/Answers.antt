@@ -1,7 +1,7 @@
 use Rattle.std.proofs.Common.{subst}
 use Rattle.druid_timeline_members.specs.Members.{member_of, HoldsPlace, Adds, SameMembers}
 use Rattle.druid_timeline_chunks.specs.Chunks.{Chunk}
-use Rattle.druid_timeline_chunks.proofs.EditLemmas.{always_err}
+use Rattle.druid_base.proofs.ClauseLemmas.{always_err}
 use Rattle.druid_timeline_chunks.proofs.chunk.Contents.add.Goals as goal
 
 pub returns-in_err-add-clause-err : goal.returns-in_err-add-clause-err

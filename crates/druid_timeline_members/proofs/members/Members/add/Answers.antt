@@ -5,7 +5,7 @@ use Rattle.druid_segment_id.specs.Identifier.{Identifier}
 use Rattle.std.proofs.lemmas.Bool.{false≢true}
 use Rattle.druid_timeline_members.specs.Members.{core_count, Member, HoldsPlace, Adds, SameMembers, member_of}
 use Rattle.druid_timeline_members.specs.Slots.{Statement, member_at, members_in}
-use Rattle.druid_timeline_members.proofs.OneLemmas.{always_err}
+use Rattle.druid_base.proofs.ClauseLemmas.{always_err}
 use Rattle.druid_timeline_members.proofs.CountLemmas.{kept_below-same}
 use Rattle.druid_timeline_members.proofs.SlotLemmas.{Adds-slot, SameMembers-slot, HoldsPlace-slot, core_count-adds, core_count-same, HasMember-same}
 use Rattle.druid_timeline_members.proofs.members.Members.add.Goals as goal

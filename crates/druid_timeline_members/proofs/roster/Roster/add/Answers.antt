@@ -1,7 +1,7 @@
 use Rattle.std.proofs.Common.{◌≡◌, ◌↔◌, ◌⊎◌, ◌∙◌, ℕ, List, map, sym, subst, inl, inr}
 use Rattle.std.specs.Bool.{IsTrue}
 use Rattle.std.specs.List.{Contains}
-use Rattle.druid_timeline_members.proofs.OneLemmas.{always_err}
+use Rattle.druid_base.proofs.ClauseLemmas.{always_err}
 use Rattle.std.proofs.lemmas.Bool.{false≢true}
 use Rattle.druid_timeline_members.specs.Slots.{Statement, Replica, Serves}
 use Rattle.druid_timeline_members.proofs.PairLemmas.{Serves-adds, Serves-there}
