@@ -265,11 +265,7 @@ fn slices<R: Abort + Threads>(rt: &R, alloc: Global, query: &Query, segment: &Se
     let reported = end(rt, alloc, partial_of_slices(alloc, query, &slices));
     assert_call(rt, "partial_of_slices", is_counted(&reported, segment));
     begin(rt, alloc);
-    let reported = end(
-        rt,
-        alloc,
-        partial_on_threads(rt, alloc, query, &slices, 1),
-    );
+    let reported = end(rt, alloc, partial_on_threads(rt, alloc, query, &slices, 1));
     assert_call(rt, "partial_on_threads", is_counted(&reported, segment));
 }
 
