@@ -289,6 +289,52 @@ fn start_syncers<
     Ok(syncers)
 }
 
+// Starts a worker over each of these views.
+fn start_workers<
+    R: Net<Listener = TcpListener, Stream = TcpStream> + Host + Copy + Send + Sync + 'static,
+    J: Publication + Send + Sync + 'static,
+    C: NodeList,
+>(
+    rt: &R,
+    alloc: Global,
+    views: Vec<View<J>>,
+    health: &Arc<Health, Global>,
+    nodes: &[NodeConfig],
+    publisher: &Shared<J, R>,
+    telemetry: &Telemetry,
+    gate: &Arc<Gate, Global>,
+    followed: &Arc<Vec<FollowedNode>, Global>,
+    source: &Source,
+) -> Result<(), DeviceFailed>
+    requires cluster { nodes.now ≡ C.nodes }
+    requires nodes { length nodes.now ≤ max_nodes }
+    requires there { length nodes.now ≡ length J.opening }
+{
+    for view in views {
+        let worker = worker_of(rt, alloc, view, health, nodes, publisher)?;
+        start_worker::<R, J, C, Worker<R, J>>(
+            rt, alloc, worker, telemetry, gate, followed, source,
+        )?;
+    }
+    Ok(())
+}
+
+// Starts the thread that answers at a broker's status address, where it has one.
+fn start_status_of<
+    R: Net<Listener = TcpListener, Stream = TcpStream> + Host + Copy + Send + Sync + 'static,
+>(
+    rt: &R,
+    alloc: Global,
+    listener: Option<TcpListener>,
+    status: BrokerStatus,
+) -> Result<(), DeviceFailed> {
+    let Some(listener) = listener else {
+        return Ok(());
+    };
+    start_status(rt, alloc, listener, status)?;
+    Ok(())
+}
+
 /// Starts the threads of a broker: one that follows each node, its front, where it has one, and its workers.
 pub(crate) fn start_broker<
     R: Net<Listener = TcpListener, Stream = TcpStream> + Host + Copy + Send + Sync + 'static,
@@ -332,19 +378,18 @@ pub(crate) fn start_broker<
         rt, alloc, pace, &health, &report, nodes, &publisher, &mut views,
     )?;
     let source = Source::open(rt, alloc, front, listener, &gate)?;
-    for view in views {
-        let worker = worker_of(rt, alloc, view, &health, nodes, &publisher)?;
-        start_worker::<R, J, C, Worker<R, J>>(
-            rt, alloc, worker, &telemetry, &gate, &followed, &source,
-        )?;
-    }
-    if let Some(listener) = status {
-        let status = BrokerStatus {
+    start_workers::<R, J, C>(
+        rt, alloc, views, &health, nodes, &publisher, &telemetry, &gate, &followed, &source,
+    )?;
+    start_status_of(
+        rt,
+        alloc,
+        status,
+        BrokerStatus {
             telemetry,
             nodes: followed,
             health,
-        };
-        start_status(rt, alloc, listener, status)?;
-    }
+        },
+    )?;
     Ok(Broker { gate, syncers })
 }

@@ -180,6 +180,41 @@ fn telemetry_of(
     Telemetry::new(alloc, name.as_str(), log)
 }
 
+// What a broker that listens starts with.
+fn parts_of(
+    alloc: Global,
+    listening: Listening,
+    pace: Pace,
+    nodes: &[NodeConfig],
+    log: &Arc<Log, Global>,
+) -> Result<BrokerParts, DeviceFailed>
+    requires some { 1 ≤ length nodes.now }
+    requires few { length nodes.now ≤ max_nodes }
+    ensures opening { IfOk result (λ parts. parts.inventory ≡ opening_of nodes.now) }
+    ensures nodes { IfOk result (λ parts. length parts.inventory ≡ length nodes.now) }
+{
+    let inventory = fresh(alloc, nodes)?;
+    let telemetry = telemetry_of(alloc, listening.place, log)?;
+    let log = Arc::try_clone(log)?;
+    let Listening {
+        listener,
+        status,
+        workers,
+        front,
+        ..
+    } = listening;
+    Ok(BrokerParts {
+        inventory,
+        listener,
+        workers,
+        front,
+        pace,
+        telemetry,
+        log,
+        status,
+    })
+}
+
 // Starts the brokers of a part after their listeners: all of them over the cluster's one list of nodes.
 #[tactic(auto, using(crate::proofs::PartLemmas::many))]
 fn start_brokers<
@@ -205,23 +240,7 @@ fn start_brokers<
     let mut listening = listening;
     // The last broker first; what is started is the same.
     while let Some(last) = listening.pop() {
-        let Listening {
-            place,
-            listener,
-            status,
-            workers,
-            front,
-        } = last;
-        let parts = BrokerParts {
-            inventory: fresh(alloc, nodes)?,
-            listener,
-            workers,
-            front,
-            pace,
-            telemetry: telemetry_of(alloc, place, log)?,
-            log: Arc::try_clone(log)?,
-            status,
-        };
+        let parts = parts_of(alloc, last, pace, nodes, log)?;
         standing.push(start_one::<R, C>(rt, alloc, Opened::new(), parts, nodes)?)?;
     }
     Ok(standing)

@@ -152,34 +152,46 @@ fn load_node<R: Wait + Threads + Sync + Clock, F: Folder, I: Incarnation>(
     folder: &mut F,
     state: NodeState,
     threads: usize,
-    reporter: &mut Reporter,
+    reporter: Reporter,
 ) -> Result<LoadedNode<I>, StartFault>
     requires { state.history.incarnation ≡ I.number }
     ensures ok { F.is_honest folder.new → OnOk result (HoldsSegments (F.content folder.new)) }
     ensures own { IfOk result (λ loaded. loaded.seen.incarnation ≡ I.number) }
     ensures cause { IfErr result (λ start. IfSome start.cause (IsOfLoad start.fault)) }
 {
-    let mut seen = state.mark();
-    let mut known = Known::new(alloc);
-    let node = DataNode::new(state, threads);
+    let seen = state.mark();
+    let mut loaded = LoadedNode {
+        node: DataNode::new(state, threads),
+        known: Known::new(alloc),
+        seen,
+        reporter,
+    };
     load_files(
-        rt, alloc, &node, folder, threads, &mut known, reporter, &mut seen,
+        rt,
+        alloc,
+        &loaded.node,
+        folder,
+        threads,
+        &mut loaded.known,
+        &mut loaded.reporter,
+        &mut loaded.seen,
     )?;
-    Ok(LoadedNode { node, known, seen })
+    Ok(loaded)
 }
 
-// A node whose segments are loaded: the files that they came from, and the mark of the last change.
+// A node whose segments are loaded: the files that they came from, the mark of the last change, and what tells of it.
 #[derive(Drop)]
 struct LoadedNode<I: Incarnation> {
     node: DataNode<I>,
     known: Known,
     seen: Mark,
+    reporter: Reporter,
 }
 
-// What a node has before it raises its incarnation: its folder, and where it listens.
+// Where a node listens, and the folder that it made its own, if it did.
 #[derive(Drop)]
 struct Held {
-    owner: Owner,
+    owner: Option<Owner>,
     listener: TcpListener,
 }
 
@@ -248,8 +260,86 @@ where
     Ok(Loading::new(end, owner))
 }
 
-// Starts a node that goes on from that state, whose incarnation its folder has: loads the segment files of the folder, places
-// the config's tombstones, listens, unless it does already, and starts its threads.
+// What a node tells of itself: to its log, and to the meter that its status address shows.
+fn reporting_of(
+    alloc: Global,
+    config: &NodeConfig,
+    log: &Arc<Log, Global>,
+) -> Result<(Telemetry, Arc<NodeMeter, Global>, Reporter), StartFault> {
+    let telemetry = Telemetry::new(alloc, config.name().as_str(), log)?;
+    let meter = Arc::new(alloc, NodeMeter::new(alloc)?)?;
+    let reporter = Reporter::new(alloc, telemetry.share()?, &meter)?;
+    Ok((telemetry, meter, reporter))
+}
+
+// What is held already, or a listener that begins now.
+fn held_or_new<R: Net<Listener = TcpListener, Stream = TcpStream>>(
+    rt: &R,
+    config: &NodeConfig,
+    held: Option<Held>,
+) -> Result<Held, StartFault> {
+    match held {
+        Some(held) => Ok(held),
+        None => Ok(Held {
+            owner: None,
+            listener: listener_of(rt, config)?,
+        }),
+    }
+}
+
+// A node that holds all that it serves at its start, and listens.
+fn ready_of<I: Incarnation>(
+    alloc: Global,
+    loaded: LoadedNode<I>,
+    seen: Mark,
+    held: Held,
+) -> Result<ReadyNode<I>, StartFault>
+    ensures { IfOk result (λ ready. ready.watch.seen ≡ seen) }
+{
+    let LoadedNode {
+        node,
+        known,
+        reporter,
+        ..
+    } = loaded;
+    let Held { owner, listener } = held;
+    Ok(ReadyNode {
+        owner,
+        node: Arc::new(alloc, node)?,
+        listener: Arc::new(alloc, listener)?,
+        watch: Watch::new(known, seen),
+        reporter,
+    })
+}
+
+// A node that goes on from that state: loads the segment files of its folder, places the config's tombstones, and listens, unless it
+// does already.
+fn ready_node<
+    R: Net<Listener = TcpListener, Stream = TcpStream> + Wait + Threads + Sync + Clock,
+    F: Folder,
+    I: Incarnation,
+>(
+    rt: &R,
+    alloc: Global,
+    config: &NodeConfig,
+    reporter: Reporter,
+    folder: &mut F,
+    state: NodeState,
+    held: Option<Held>,
+) -> Result<ReadyNode<I>, StartFault>
+    requires { state.history.incarnation ≡ I.number }
+    ensures { IfOk result (λ ready. ready.watch.seen.incarnation ≡ I.number) }
+{
+    let threads = config.threads() as usize;
+    let loaded: LoadedNode<I> = load_node(rt, alloc, folder, state, threads, reporter)?;
+    let mut seen = loaded.seen;
+    place_tombstones(rt, &loaded.node, config.tombstones(), &mut seen)?;
+    loaded.reporter.note(seen);
+    let held = held_or_new(rt, config, held)?;
+    ready_of(alloc, loaded, seen, held)
+}
+
+// Starts a node that goes on from that state, whose incarnation its folder has: makes it ready, and starts its threads.
 fn start_from<
     R: Files<File = File>
         + Net<Listener = TcpListener, Stream = TcpStream>
@@ -276,26 +366,8 @@ where
     requires own { state.history.incarnation ≡ I.number }
     requires has { F.is_honest folder.old → F.content folder.old number_file ≡ Some (number_text state.history.incarnation) }
 {
-    let telemetry = Telemetry::new(alloc, config.name().as_str(), log)?;
-    let meter = Arc::new(alloc, NodeMeter::new(alloc)?)?;
-    let mut reporter = Reporter::new(alloc, telemetry.share()?, &meter)?;
-    let threads = config.threads() as usize;
-    let loaded: LoadedNode<I> = load_node(rt, alloc, folder, state, threads, &mut reporter)?;
-    let LoadedNode { node, known, seen } = loaded;
-    let mut seen = seen;
-    place_tombstones(rt, &node, config.tombstones(), &mut seen)?;
-    reporter.note(seen);
-    let (owner, listener) = match held {
-        Some(Held { owner, listener }) => (Some(owner), listener),
-        None => (None, listener_of(rt, config)?),
-    };
-    let ready = ReadyNode {
-        owner,
-        node: Arc::new(alloc, node)?,
-        listener: Arc::new(alloc, listener)?,
-        watch: Watch::new(known, seen),
-        reporter,
-    };
+    let (telemetry, meter, reporter) = reporting_of(alloc, config, log)?;
+    let ready: ReadyNode<I> = ready_node(rt, alloc, config, reporter, folder, state, held)?;
     start_status_of(rt, alloc, config, telemetry.share()?, meter)?;
     start_threads::<R, L, I, Brand>(rt, alloc, config, &telemetry, ready)
 }
@@ -432,7 +504,7 @@ where
     requires few { kept ≤ max_changes }
 {
     let listener = listener_of(rt, config)?;
-    let owner = own_folder(rt, config.folder())?;
+    let owner = Some(own_folder(rt, config.folder())?);
     let held = Held { owner, listener };
     start_over::<R, D, L>(rt, alloc, config, kept, log, Some(held))
 }
