@@ -24,8 +24,8 @@ fn schema(rt: &impl Abort, alloc: Global) -> Schema {
     Schema::new(dimensions, metrics)
 }
 
-fn row(rt: &impl Abort, alloc: Global, value: &str) -> Row {
-    let time = Instant::parse("2024-01-01T10:00").expect(rt, "an instant");
+fn row(rt: &impl Abort, alloc: Global, time: &str, value: &str) -> Row {
+    let time = Instant::parse(time).expect(rt, "an instant");
     let values = vec![in alloc; Some(text_of(rt, alloc, value))].expect(rt, "memory");
     Row::new(
         time,
@@ -35,7 +35,8 @@ fn row(rt: &impl Abort, alloc: Global, value: &str) -> Row {
 }
 
 fn rows(rt: &impl Abort, alloc: Global) -> Vec<Row> {
-    let (first, second) = (row(rt, alloc, "a"), row(rt, alloc, "b"));
+    let first = row(rt, alloc, "2024-01-01T10:00", "a");
+    let second = row(rt, alloc, "2024-01-01T11:00", "b");
     vec![in alloc; first, second].expect(rt, "memory")
 }
 
@@ -47,6 +48,16 @@ pub(crate) fn segment(rt: &impl Abort, alloc: Global) -> Segment {
 /// One with that descriptor.
 pub(crate) fn segment_with(rt: &impl Abort, alloc: Global, descriptor: Descriptor) -> Segment {
     Segment::new(alloc, descriptor, schema(rt, alloc), rows(rt, alloc)).expect(rt, "a segment")
+}
+
+// Whether it is the second of `rows`.
+fn is_second(rt: &impl Abort, row: &Row) -> bool {
+    let time = Instant::parse("2024-01-01T11:00").expect(rt, "an instant");
+    let is_b = match row.dimensions() {
+        [Some(value)] => value.as_str() == "b",
+        _ => false,
+    };
+    row.time() == time && is_b && row.metrics() == [Some(5_i64)].as_slice()
 }
 
 fn segments(rt: &impl Abort, alloc: Global) {
@@ -63,19 +74,14 @@ fn segments(rt: &impl Abort, alloc: Global) {
         },
     );
     let segment = segment(rt, alloc);
-    if !segment.is_empty() {
+    if segment.len() == 2 {
         begin(rt, alloc);
-        let row = end(rt, alloc, segment.row(0));
+        let row = end(rt, alloc, segment.row(1));
         assert_call(
             rt,
             "Segment::row",
             match &row {
-                Ok(row) => {
-                    row.time() == segment.time(0)
-                        && row.dimensions().len() == 1
-                        && row.metrics().len() == 1
-                        && row.metrics()[0] == Some(5)
-                }
+                Ok(row) => is_second(rt, row),
                 Err(_) => segment.len() == 2,
             },
         );
@@ -85,7 +91,7 @@ fn segments(rt: &impl Abort, alloc: Global) {
 // Pushes a row of which the builder has none yet, or one with another value.
 fn pushes(rt: &impl Abort, alloc: Global, builder: &mut SegmentBuilder, value: &str) {
     let time = Instant::parse("2024-01-01T10:00").expect(rt, "an instant");
-    let row = row(rt, alloc, value);
+    let row = row(rt, alloc, "2024-01-01T10:00", value);
     begin(rt, alloc);
     let reported = end(rt, alloc, builder.push(&row));
     assert_call(
