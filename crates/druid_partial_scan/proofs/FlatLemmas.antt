@@ -1,11 +1,11 @@
 -- Groups whose numbers stand in one array.
-use Rattle.std.proofs.Common.{◌≡◌, ◌∙◌, ℕ, zero, suc, ◌+◌, ◌*◌, ◌<◌, ◌≤◌, ◌-◌, ℤ, List, [], ◌∷◌, ◌++◌, length, map, set, take, drop, get_or, replicate, Bool, true, false, Option, Some, None, refl, sym, ap, arith, append_assoc}
-use Rattle.std.specs.Prelude.{option_map}
+use Rattle.std.proofs.Common.{◌≡◌, ◌∙◌, ℕ, zero, suc, ◌+◌, ◌*◌, ◌<◌, ◌≤◌, ◌-◌, ℤ, List, [], ◌∷◌, ◌++◌, length, map, set, take, drop, get_or, replicate, Bool, true, false, Option, Some, None, Vec, Global, refl, sym, ap, arith, append_assoc}
+use Rattle.std.specs.Prelude.{option_map, ◌^◌}
 use Rattle.std.proofs.Math.Nat.{mul-le-mul_left, mul_comm}
 use Rattle.std.proofs.Math.Seq.{take-add}
 use Rattle.std.proofs.lemmas.List.{take_at, drop_at, drop-drop, length-drop, length-map, length-replicate, length-set, length-take-le, get_or-map, map-set, set-get_or, drop_more, map_more, set-append_right, get_or-set_same, get_or-drop, take_more, drop-set-lt, set-set}
 use Rattle.druid_query.specs.declared.aggregator.AggregatorKind.{AggregatorKind}
-use Rattle.druid_partial_scan.specs.Cells.{Filled, groups_from, is_there, joined_with, join_into, filled_with, cell_of, cells_in, with_row, AreParts}
+use Rattle.druid_partial_scan.specs.Cells.{Cells, Filled, groups_from, is_there, joined_with, join_into, filled_with, cell_of, cells_in, with_row, AreParts}
 
 -- the numbers of a cell lie within those of all
 pub cell_inside : (cell n width : ℕ) → cell < n → cell * width + width ≤ n * width
@@ -96,13 +96,30 @@ parts_inside width filled kept numbers groups i parts e h =
     let d = parts.long in
     (omega (arith, a, b, h), omega (arith, a, h), omega (arith, c, d))
 
-pub mark_is : {K : Type 0} (width : ℕ) (filled : List Bool) (kept : List (Option K)) (numbers : List (Option ℤ)) (groups : List (Option (Filled K))) (i : ℕ) (mark : Bool) → AreParts width filled kept numbers → groups_from width kept numbers ≡ groups → i < length groups → mark ≡ get_or filled i mark → mark ≡ is_there (get_or groups i None)
-mark_is width filled kept numbers groups i mark parts e h m =
-    let inside = (parts_inside width filled kept numbers groups i parts e h).1 in
-    m ∙ ap (λ l. get_or l i mark) parts.marks
+-- where the parts of a cell lie
+pub record HasPlace (width marks groups numbers i : ℕ) : Type 0 where
+  pub mark : i < marks
+  pub kept : i < groups
+  pub to : i * width + width ≤ numbers
+  pub from_small : i * width < 2 ^ 64
+  pub to_small : i * width + width < 2 ^ 64
+
+pub place_of : {K : Type 0} (width : ℕ) (filled : Vec Bool Global) (kept : Vec (Option K) Global) (numbers : Vec (Option ℤ) Global) (array : Cells K) (i : ℕ) → AreParts width filled.items kept.items numbers.items → record { width = width; groups = groups_from width kept.items numbers.items } ≡ array → i < length array.groups → HasPlace width filled.len kept.len (length numbers.items) i
+place_of {K = K} width filled kept numbers array i parts e h =
+    let inside = parts_inside width filled.items kept.items numbers.items array.groups i parts (ap (λ (v : Cells K). v.groups) e) h in
+    let a = inside.0 in let b = inside.1 in let c = inside.2 in
+    let m = filled.ok.0 in let k = kept.ok.0 in let n = numbers.ok.0 in let s = numbers.small in
+    record { mark = omega (arith, m, a); kept = omega (arith, k, b); to = c; from_small = omega (arith, n, c, s); to_small = omega (arith, n, c, s) }
+
+-- a mark says whether there is a group
+pub mark_is : {K : Type 0} (width : ℕ) (filled : List Bool) (kept : List (Option K)) (numbers : List (Option ℤ)) (array : Cells K) (i : ℕ) (mark answer : Bool) → AreParts width filled kept numbers → record { width = width; groups = groups_from width kept numbers } ≡ array → i < length array.groups → mark ≡ get_or filled i mark → mark ≡ answer → answer ≡ is_there (get_or array.groups i None)
+mark_is {K = K} width filled kept numbers array i mark answer parts e h m a =
+    let shown = ap (λ (v : Cells K). v.groups) e in
+    let inside = (parts_inside width filled kept numbers array.groups i parts shown h).1 in
+    sym a ∙ m ∙ ap (λ l. get_or l i mark) parts.marks
     ∙ get_or-map is_there kept i None mark inside
     ∙ there_in (λ k. (k, take width (drop (i * width) numbers))) (get_or kept i None)
-    ∙ ap is_there (sym (group_in width kept numbers i None None inside) ∙ ap (λ l. get_or l i None) e)
+    ∙ ap is_there (sym (group_in width kept numbers i None None inside) ∙ ap (λ l. get_or l i None) shown)
 
 -- a row joined where there is no group
 pub absent : {K : Type 0} (groups : List (Option (Filled K))) (i : ℕ) (kinds : List AggregatorKind) (xs : List (Option ℤ)) → false ≡ is_there (get_or groups i None) → groups ≡ set groups i (joined_with kinds xs (get_or groups i None))
@@ -112,37 +129,22 @@ absent {K = K} groups i kinds xs e = sym (ap (set groups i) (same (get_or groups
     same None e = refl
     same (Some g) e = absurd (cc)
 
--- ---- a row joined to a group, or put
+-- ---- a cell that is written
 
-into_long : (kinds : List AggregatorKind) (xs ys : List (Option ℤ)) → length (join_into kinds xs ys) ≡ length ys
+pub into_long : (kinds : List AggregatorKind) (xs ys : List (Option ℤ)) → length (join_into kinds xs ys) ≡ length ys
 into_long [] xs ys = refl
 into_long (kind ∷ kinds) [] ys = refl
 into_long (kind ∷ kinds) (x ∷ xs) [] = refl
 into_long (kind ∷ kinds) (x ∷ xs) (y ∷ ys) = ap suc (into_long kinds xs ys)
 
-joined_in : {K : Type 0} (kinds : List AggregatorKind) (xs ys : List (Option ℤ)) (o : Option K) → option_map (λ k. (k, join_into kinds xs ys)) o ≡ joined_with kinds xs (option_map (λ k. (k, ys)) o)
-joined_in kinds xs ys None = refl
-joined_in kinds xs ys (Some k) = refl
-
-pub own_long : (i n width : ℕ) (numbers : List (Option ℤ)) → i < n → length numbers ≡ n * width → length (take width (drop (i * width) numbers)) ≡ width
+own_long : (i n width : ℕ) (numbers : List (Option ℤ)) → i < n → length numbers ≡ n * width → length (take width (drop (i * width) numbers)) ≡ width
 own_long i n width numbers h long =
     let a = cell_inside i n width h in
     let b = length-drop (i * width) numbers in
     length-take-le width (drop (i * width) numbers) (omega (arith, a, b, long))
 
-pub joined_groups : {K : Type 0} (width : ℕ) (filled : List Bool) (kept : List (Option K)) (numbers new : List (Option ℤ)) (groups : List (Option (Filled K))) (i : ℕ) (kinds : List AggregatorKind) (xs : List (Option ℤ)) → AreParts width filled kept numbers → groups_from width kept numbers ≡ groups → i < length groups → new ≡ take (i * width) numbers ++ join_into kinds xs (take (i * width + width - i * width) (drop (i * width) numbers)) ++ drop (i * width + width) numbers → groups_from width kept new ≡ set groups i (joined_with kinds xs (get_or groups i None))
-joined_groups width filled kept numbers new groups i kinds xs parts e h n =
-    let inside = (parts_inside width filled kept numbers groups i parts e h).1 in
-    let own = take width (drop (i * width) numbers) in
-    let wide : i * width + width - i * width ≡ width = omega arith in
-    let whole = append_assoc (take (i * width) numbers) (join_into kinds xs own) (drop (i * width + width) numbers) in
-    ap (groups_from width kept) (n ∙ ap (λ w. take (i * width) numbers ++ join_into kinds xs (take w (drop (i * width) numbers)) ++ drop (i * width + width) numbers) wide ∙ whole)
-    ∙ numbers_set width kept numbers (join_into kinds xs own) i None inside parts.long (into_long kinds xs own ∙ own_long i (length kept) width numbers inside parts.long)
-    ∙ ap (set (groups_from width kept numbers) i) (joined_in kinds xs own (get_or kept i None) ∙ ap (joined_with kinds xs) (sym (group_in width kept numbers i None None inside)))
-    ∙ ap (λ gs. set gs i (joined_with kinds xs (get_or gs i None))) e
-
 -- what is written through a slice
-pub written_all : {X : Type 0} (n : ℕ) (new old : List X) → n ≡ length new → take n (new ++ drop (length new) old) ≡ new
+written_all : {X : Type 0} (n : ℕ) (new old : List X) → n ≡ length new → take n (new ++ drop (length new) old) ≡ new
 written_all n new old e = rw e (take_at new (drop (length new) old) (length new) refl)
 
 -- one number more written
@@ -164,17 +166,48 @@ parts_put width filled marks kept cells numbers new i o mark parts k m e n = rec
   long = n ∙ parts.long ∙ ap (λ l. l * width) (sym (ap length k ∙ length-set kept i o));
 }
 
-pub put_groups : {K : Type 0} (width : ℕ) (filled : List Bool) (kept cells : List (Option K)) (numbers new xs : List (Option ℤ)) (groups : List (Option (Filled K))) (i : ℕ) (k : K) → AreParts width filled kept numbers → groups_from width kept numbers ≡ groups → i < length groups → length xs ≡ width → cells ≡ set kept i (Some k) → new ≡ take (i * width) numbers ++ xs ++ drop (i * width + width) numbers → groups_from width cells new ≡ set groups i (Some (k, xs))
-put_groups width filled kept cells numbers new xs groups i k parts e h wide c n =
-    let inside = (parts_inside width filled kept numbers groups i parts e h).1 in
-    let there : get_or (set kept i (Some k)) i None ≡ Some k = get_or-set_same kept i (Some k) None inside in
-    ap (λ l. groups_from width l new) c
-    ∙ ap (groups_from width (set kept i (Some k))) (n ∙ append_assoc (take (i * width) numbers) xs (drop (i * width + width) numbers))
-    ∙ numbers_set width (set kept i (Some k)) numbers xs i None (let l = length-set kept i (Some k) in omega (arith, l, inside)) (parts.long ∙ ap (λ l. l * width) (sym (length-set kept i (Some k)))) wide
-    ∙ ap (λ o. set (groups_from width (set kept i (Some k)) numbers) i (option_map (λ x. (x, xs)) o)) there
-    ∙ ap (λ gs. set gs i (Some (k, xs))) (kept_set width kept numbers i (Some k) inside)
-    ∙ set-set (groups_from width kept numbers) i _ (Some (k, xs))
-    ∙ ap (λ gs. set gs i (Some (k, xs))) e
+-- the same of a cell that is written through a slice of all numbers
+pub parts_written : {K : Type 0} (width : ℕ) (filled : List Bool) (kept : List (Option K)) (numbers : Vec (Option ℤ) Global) (slice new : List (Option ℤ)) (i : ℕ) (k : K) → AreParts width filled kept numbers.items → slice ≡ numbers.items → length new ≡ length slice → AreParts width (set filled i true) (set kept i (Some k)) (take numbers.len (new ++ drop (length new) numbers.items))
+parts_written width filled kept numbers slice new i k parts same long =
+    let n = numbers.ok.0 in let s = ap length same in
+    parts_put width filled (set filled i true) kept (set kept i (Some k)) numbers.items _ i (Some k) true parts refl refl refl
+    (ap length (written_all numbers.len new numbers.items (omega (arith, n, s, long))) ∙ long ∙ s)
+
+-- the groups then
+pub cell_written : {K : Type 0} (width : ℕ) (filled : List Bool) (kept cells : List (Option K)) (numbers : Vec (Option ℤ) Global) (slice new xs : List (Option ℤ)) (array : Cells K) (i : ℕ) (o : Option K) → AreParts width filled kept numbers.items → record { width = width; groups = groups_from width kept numbers.items } ≡ array → i < length array.groups → slice ≡ numbers.items → length new ≡ length slice → length xs ≡ width → cells ≡ set kept i o → new ≡ take (i * width) slice ++ xs ++ drop (i * width + width) slice → groups_from width cells (take numbers.len (new ++ drop (length new) numbers.items)) ≡ set array.groups i (option_map (λ k. (k, xs)) o)
+cell_written {K = K} width filled kept cells numbers slice new xs array i o parts e h same long wide put is =
+    let all = numbers.items in
+    let shown = ap (λ (v : Cells K). v.groups) e in
+    let inside = (parts_inside width filled kept all array.groups i parts shown h).1 in
+    let n = numbers.ok.0 in let s = ap length same in
+    let placed = is ∙ ap (λ l. take (i * width) l ++ xs ++ drop (i * width + width) l) same ∙ append_assoc (take (i * width) all) xs (drop (i * width + width) all) in
+    let there : get_or (set kept i o) i None ≡ o = get_or-set_same kept i o None inside in
+    ap (groups_from width cells) (written_all numbers.len new all (omega (arith, n, s, long)) ∙ placed)
+    ∙ ap (λ ks. groups_from width ks (take (i * width) all ++ (xs ++ drop (i * width + width) all))) put
+    ∙ numbers_set width (set kept i o) all xs i None (let l = length-set kept i o in omega (arith, l, inside)) (parts.long ∙ ap (λ l. l * width) (sym (length-set kept i o))) wide
+    ∙ ap (λ p. set (groups_from width (set kept i o) all) i (option_map (λ k. (k, xs)) p)) there
+    ∙ ap (λ gs. set gs i (option_map (λ k. (k, xs)) o)) (kept_set width kept all i o inside)
+    ∙ set-set (groups_from width kept all) i _ (option_map (λ k. (k, xs)) o)
+    ∙ ap (λ gs. set gs i (option_map (λ k. (k, xs)) o)) shown
+
+-- and where its numbers alone are written, from those that it had
+pub numbers_written : {K : Type 0} (width : ℕ) (filled : List Bool) (kept : List (Option K)) (numbers : Vec (Option ℤ) Global) (slice new : List (Option ℤ)) (array : Cells K) (i : ℕ) (f : List (Option ℤ) → List (Option ℤ)) → ((xs : List (Option ℤ)) → length (f xs) ≡ length xs) → AreParts width filled kept numbers.items → record { width = width; groups = groups_from width kept numbers.items } ≡ array → i < length array.groups → slice ≡ numbers.items → length new ≡ length slice → new ≡ take (i * width) slice ++ f (take (i * width + width - i * width) (drop (i * width) slice)) ++ drop (i * width + width) slice → groups_from width kept (take numbers.len (new ++ drop (length new) numbers.items)) ≡ set array.groups i (option_map {U = Filled K} (λ (g : Filled K). (g.0, f g.1)) (get_or array.groups i None))
+numbers_written {K = K} width filled kept numbers slice new array i f keeps parts e h same long is =
+    let all = numbers.items in
+    let shown = ap (λ (v : Cells K). v.groups) e in
+    let inside = (parts_inside width filled kept all array.groups i parts shown h).1 in
+    let span : i * width + width - i * width ≡ width = omega arith in
+    let own = take width (drop (i * width) all) in
+    let mine : take (i * width + width - i * width) (drop (i * width) slice) ≡ own = ap (λ w. take w (drop (i * width) slice)) span ∙ ap (λ l. take width (drop (i * width) l)) same in
+    let here = get_or kept i None in
+    cell_written width filled kept kept numbers slice new _ array i here parts e h same long (keeps _ ∙ ap length mine ∙ own_long i (length kept) width all inside parts.long) (sym (set-get_or kept i None)) is
+    ∙ ap (set array.groups i)
+    (ap (λ l. option_map (λ k. (k, f l)) here) mine ∙ moved here own
+    ∙ ap (option_map {U = Filled K} (λ (g : Filled K). (g.0, f g.1))) (sym (group_in width kept all i None None inside) ∙ ap (λ gs. get_or gs i None) shown))
+  where
+    moved : (o : Option K) (ys : List (Option ℤ)) → option_map (λ k. (k, f ys)) o ≡ option_map {U = Filled K} (λ (g : Filled K). (g.0, f g.1)) (option_map (λ k. (k, ys)) o)
+    moved None ys = refl
+    moved (Some k) ys = refl
 
 pub taken_groups : {K : Type 0} (width : ℕ) (filled : List Bool) (kept cells : List (Option K)) (numbers : List (Option ℤ)) (groups : List (Option (Filled K))) (i : ℕ) → AreParts width filled kept numbers → groups_from width kept numbers ≡ groups → i < length groups → cells ≡ set kept i None → groups_from width cells numbers ≡ set groups i None
 taken_groups width filled kept cells numbers groups i parts e h c =

@@ -1,40 +1,26 @@
 -- A group, and then all of an array, joined to those of another.
-use Rattle.std.proofs.Common.{◌≡◌, ◌∙◌, ℕ, zero, suc, ◌+◌, ◌*◌, ◌<◌, ◌-◌, ℤ, List, [], ◌∷◌, ◌++◌, length, set, take, drop, get_or, Bool, true, false, Option, Some, None, refl, sym, ap, arith, append_assoc, take_all}
+use Rattle.std.proofs.Common.{◌≡◌, ◌∙◌, ℕ, zero, suc, ◌+◌, ◌<◌, ℤ, List, [], ◌∷◌, length, set, take, drop, get_or, true, false, Option, Some, None, refl, sym, ap, arith, take_all}
 use Rattle.std.specs.Prelude.{option_map}
 use Rattle.std.proofs.lemmas.List.{set-get_or, get_or-drop, drop-set-lt, drop-drop}
 use Rattle.druid_query.specs.declared.aggregator.AggregatorKind.{AggregatorKind}
 use Rattle.druid_partial.specs.Joined.{join_numbers}
-use Rattle.druid_partial_scan.specs.Cells.{Filled, groups_from, is_there, joined_cell, joined_cells, AreParts}
-use Rattle.druid_partial_scan.proofs.FlatLemmas.{parts_inside, group_in, numbers_set, own_long, there_in}
+use Rattle.druid_partial_scan.specs.Cells.{Filled, is_there, joined_cell, joined_cells}
 
 -- ---- one group
 
-numbers_long : (kinds : List AggregatorKind) (xs ys : List (Option ℤ)) → length (join_numbers kinds xs ys) ≡ length xs
+pub numbers_long : (kinds : List AggregatorKind) (xs ys : List (Option ℤ)) → length (join_numbers kinds xs ys) ≡ length xs
 numbers_long [] xs ys = refl
 numbers_long (kind ∷ kinds) [] ys = refl
 numbers_long (kind ∷ kinds) (x ∷ xs) [] = refl
 numbers_long (kind ∷ kinds) (x ∷ xs) (y ∷ ys) = ap suc (numbers_long kinds xs ys)
 
-met : {K : Type 0} (kinds : List AggregatorKind) (own more : List (Option ℤ)) (k : K) (o : Option K) → true ≡ is_there o → option_map (λ x. (x, join_numbers kinds own more)) o ≡ joined_cell kinds (option_map (λ x. (x, own)) o) (Some (k, more))
-met kinds own more k None e = absurd (cc)
-met kinds own more k (Some x) e = refl
-
 -- where there is one of the cell
-pub met_groups : {K : Type 0} (width : ℕ) (filled : List Bool) (kept : List (Option K)) (numbers new more : List (Option ℤ)) (groups : List (Option (Filled K))) (i : ℕ) (kinds : List AggregatorKind) (k : K) → AreParts width filled kept numbers → groups_from width kept numbers ≡ groups → i < length groups → true ≡ is_there (get_or groups i None)
-    → new ≡ take (i * width) numbers ++ join_numbers kinds (take (i * width + width - i * width) (drop (i * width) numbers)) more ++ drop (i * width + width) numbers
-    → groups_from width kept new ≡ set groups i (joined_cell kinds (get_or groups i None) (Some (k, more)))
-met_groups width filled kept numbers new more groups i kinds k parts e h there n =
-    let inside = (parts_inside width filled kept numbers groups i parts e h).1 in
-    let own = take width (drop (i * width) numbers) in
-    let wide : i * width + width - i * width ≡ width = omega arith in
-    let whole = append_assoc (take (i * width) numbers) (join_numbers kinds own more) (drop (i * width + width) numbers) in
-    let here = group_in width kept numbers i None None inside in
-    let mine : true ≡ is_there (get_or kept i None) =
-    there ∙ ap (λ gs. is_there (get_or gs i None)) (sym e) ∙ ap is_there here ∙ sym (there_in (λ x. (x, own)) (get_or kept i None)) in
-    ap (groups_from width kept) (n ∙ ap (λ w. take (i * width) numbers ++ join_numbers kinds (take w (drop (i * width) numbers)) more ++ drop (i * width + width) numbers) wide ∙ whole)
-    ∙ numbers_set width kept numbers (join_numbers kinds own more) i None inside parts.long (numbers_long kinds own more ∙ own_long i (length kept) width numbers inside parts.long)
-    ∙ ap (set (groups_from width kept numbers) i) (met kinds own more k (get_or kept i None) mine ∙ ap (λ g. joined_cell kinds g (Some (k, more))) (sym here))
-    ∙ ap (λ gs. set gs i (joined_cell kinds (get_or gs i None) (Some (k, more)))) e
+pub met : {K : Type 0} (groups : List (Option (Filled K))) (i : ℕ) (kinds : List AggregatorKind) (k : K) (more : List (Option ℤ)) → true ≡ is_there (get_or groups i None) → set groups i (option_map {U = Filled K} (λ (g : Filled K). (g.0, join_numbers kinds g.1 more)) (get_or groups i None)) ≡ set groups i (joined_cell kinds (get_or groups i None) (Some (k, more)))
+met {K = K} groups i kinds k more e = ap (set groups i) (same (get_or groups i None) e)
+  where
+    same : (o : Option (Filled K)) → true ≡ is_there o → option_map {U = Filled K} (λ (g : Filled K). (g.0, join_numbers kinds g.1 more)) o ≡ joined_cell kinds o (Some (k, more))
+    same None e = absurd (cc)
+    same (Some g) e = refl
 
 -- where there is none
 pub unmet : {K : Type 0} (groups : List (Option (Filled K))) (i : ℕ) (kinds : List AggregatorKind) (k : K) (more : List (Option ℤ)) → false ≡ is_there (get_or groups i None) → set groups i (Some (k, more)) ≡ set groups i (joined_cell kinds (get_or groups i None) (Some (k, more)))

@@ -3,7 +3,7 @@ use Rattle.std.proofs.Common.{◌≡◌, ◌∙◌, ℕ, zero, suc, ◌+◌, ◌
 use Rattle.std.proofs.lemmas.List.{append-nil, length-map}
 use Rattle.std.proofs.lemmas.List.Elements.{All-nil, All-cons, All-head, All-tail, All-contains, Contains-append_right}
 use Rattle.std.proofs.Common.{append_assoc}
-use Rattle.std.specs.Prelude.{All, Contains, Bool, slice_get, slice_index_or, option_map}
+use Rattle.std.specs.Prelude.{All, Contains, slice_get, slice_index_or, option_map}
 use Rattle.std.specs.Ordering.{nat_cmp, ordering_then, ordering_reverse, match_ordering}
 use Rattle.std.specs.declared.cmp.Ordering.TheVariants.{Less, Equal, Greater}
 use Rattle.std.specs.Cmp.Lexicographic.{slice_cmp}
@@ -20,10 +20,10 @@ use Rattle.druid_partial.specs.Joined.{join_numbers, join_groups, put, merged}
 use Rattle.druid_partial.specs.Partials.{kinds_of, HasNumbers}
 use Rattle.druid_partial_scan.specs.Rows.{is_asked}
 use Rattle.druid_partial_scan.specs.Places.{at_place, places_of}
-use Rattle.druid_partial_scan.specs.Cells.{Cell, Cells, Filled, AreColumns, join_into, with_row, joined_with, is_there, cell_of, cells_in}
+use Rattle.druid_partial_scan.specs.Cells.{Cell, Cells, Filled, AreColumns, join_into, with_row, filled_with, cell_of, cells_in}
 use Rattle.druid_query.specs.Query.{Query}
 use Rattle.druid_partial_scan.specs.Scans.{Scan, counted_at, bucket_at, cell_at, group_at, groups_in, IsCell, AreCells, AreUpto, ComeBefore, IsJoined, IsKept, HasRoom}
-use Rattle.druid_partial_scan.proofs.FlatLemmas.{filled_joined, filled_put, cells_filled}
+use Rattle.druid_partial_scan.proofs.FlatLemmas.{cells_filled}
 use Rattle.druid_partial.specs.Orders.{key_cmp-total}
 use Rattle.druid_partial.proofs.GroupLemmas.{key_same}
 use Rattle.druid_partial.proofs.MergedLemmas.{joined_length}
@@ -109,41 +109,28 @@ cells_kept scan bucket row cells h k b n are place c e =
         (λ d f. are place d (subst Q (sym p) (slice_get-get_or cells (cell_at scan row) None k) ∙ ap (λ o. Some o) f)))
 
 -- the row's group is merged
-pub cells_joined : (scan : Scan) (row cell : ℕ) (kinds : List AggregatorKind) (numbers : List (Option ℤ)) (old new : List (Option Cell)) → HasColumns scan → row < length scan.segment.rows → AreWords (counted_at scan row).numbers → kinds ≡ kinds_of scan.query → numbers ≡ (counted_at scan row).numbers → cell ≡ cell_at scan row → cell < length old → new ≡ set old cell (Some (with_row kinds row numbers (slice_index_or old cell None))) → IsJoined scan row old new
-cells_joined scan row cell kinds numbers old new columns h words k ns at inside is =
-    let own = kinds_of scan.query in
-    let reported = (counted_at scan row).numbers in
+pub cells_joined : (scan : Scan) (row : ℕ) (old new : List (Option Cell)) → HasColumns scan → row < length scan.segment.rows → AreWords (counted_at scan row).numbers → cell_at scan row < length old → new ≡ set old (cell_at scan row) (Some (with_row (kinds_of scan.query) row (counted_at scan row).numbers (slice_index_or old (cell_at scan row) None))) → IsJoined scan row old new
+cells_joined scan row old new columns h words inside is =
     let own_cell = cell_at scan row in
-    let whole : List (Option Cell) = set old own_cell (Some (with_row own row reported (slice_index_or old own_cell None))) in
-    let same : new ≡ whole =
-    is ∙ ap (λ i. set old i (Some (with_row kinds row numbers (slice_index_or old i None)))) at
-    ∙ ap (λ ks. set old own_cell (Some (with_row ks row numbers (slice_index_or old own_cell None)))) k
-    ∙ ap (λ xs. set old own_cell (Some (with_row own row xs (slice_index_or old own_cell None)))) ns in
     let has = row_numbers scan.query scan.segment.fields (row_at scan.segment row) words in
-    let there : own_cell < length old = omega (arith, at, inside) in
     let P : List (Option Cell) → Type 0 = IsJoined scan row old in
-    subst P (sym same) (record {
+    subst P (sym is) (record {
       long = length-set old own_cell _;
       groups = λ bucket b are.
-          put_cell own scan row old own_cell there
+          put_cell (kinds_of scan.query) scan row old own_cell inside
           (λ i c e. let cell = are i c e in keys_order scan row c.row columns h cell.inside (b ∙ sym cell.bucket_is) ∙ ap (nat_cmp own_cell) cell.place_is)
           (λ i c e. (are i c e).numbers.one_each) has.one_each;
-      cells = λ bucket b are. cells_kept scan bucket row old h there b has are;
+      cells = λ bucket b are. cells_kept scan bucket row old h inside b has are;
     })
 
 -- the same where the array is one of numbers
-pub row_joined : (scan : Scan) (row cell : ℕ) (kinds : List AggregatorKind) (numbers : List (Option ℤ)) (old new : List (Option (Filled ℕ))) (there : Bool) → HasColumns scan → row < length scan.segment.rows → AreWords (counted_at scan row).numbers → kinds ≡ kinds_of scan.query → numbers ≡ (counted_at scan row).numbers → cell ≡ cell_at scan row → cell < length old → there ≡ is_there (slice_index_or old cell None) → there ≡ true → new ≡ set old cell (joined_with kinds numbers (slice_index_or old cell None)) → IsJoined scan row (cells_in old) (cells_in new)
-row_joined scan row cell kinds numbers old new there columns h words k ns at inside t y is =
+pub row_joined : (scan : Scan) (row cell : ℕ) (old new : List (Option (Filled ℕ))) → HasColumns scan → row < length scan.segment.rows → AreWords (counted_at scan row).numbers → cell ≡ cell_at scan row → cell < length old → new ≡ set old cell (Some (filled_with (kinds_of scan.query) row (counted_at scan row).numbers (slice_index_or old cell None))) → IsJoined scan row (cells_in old) (cells_in new)
+row_joined scan row cell old new columns h words at inside is =
+    let kinds = kinds_of scan.query in
+    let xs = (counted_at scan row).numbers in
     let long = length-map old (option_map cell_of) in
-    cells_joined scan row cell kinds numbers (cells_in old) (cells_in new) columns h words k ns at (omega (arith, inside, long))
-    (cells_filled old new cell row kinds numbers inside (filled_joined old new cell kinds row numbers there t y is))
-
-pub row_put : (scan : Scan) (row cell : ℕ) (kinds : List AggregatorKind) (numbers own : List (Option ℤ)) (old mid new : List (Option (Filled ℕ))) (there : Bool) → HasColumns scan → row < length scan.segment.rows → AreWords (counted_at scan row).numbers → kinds ≡ kinds_of scan.query → numbers ≡ (counted_at scan row).numbers → own ≡ (counted_at scan row).numbers → cell ≡ cell_at scan row → cell < length old → there ≡ is_there (slice_index_or old cell None) → there ≡ false → mid ≡ set old cell (joined_with kinds numbers (slice_index_or old cell None)) → new ≡ set mid cell (Some (row, own)) → IsJoined scan row (cells_in old) (cells_in new)
-row_put scan row cell kinds numbers own old mid new there columns h words k ns os at inside t y is n =
-    let long = length-map old (option_map cell_of) in
-    cells_joined scan row cell kinds numbers (cells_in old) (cells_in new) columns h words k ns at (omega (arith, inside, long))
-    (cells_filled old new cell row kinds numbers inside
-    (filled_put old mid new cell kinds row numbers there t y is (n ∙ ap (λ xs. set mid cell (Some (row, xs))) (os ∙ sym ns))))
+    cells_joined scan row (cells_in old) (cells_in new) columns h words (omega (arith, at, inside, long))
+    (cells_filled old new cell row kinds xs inside is ∙ ap (λ i. set (cells_in old) i (Some (with_row kinds row xs (slice_index_or (cells_in old) i None)))) at)
 
 -- room stays
 pub room_stays : {K : Type 0} (query : Query) (room i : ℕ) (o : Option (Filled K)) (old new : Cells K) → HasRoom query room old → new.width ≡ old.width → new.groups ≡ set old.groups i o → HasRoom query room new

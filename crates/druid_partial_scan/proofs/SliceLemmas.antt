@@ -290,16 +290,13 @@ groups_filled old new i kinds key xs h e =
     same None = refl
     same (Some g) = refl
 
-pub filled_adds : (texts : Texts) (scan : Scan) (row cell : ℕ) (kinds : List AggregatorKind) (numbers : List (Option ℤ)) (old new : List (Option (Filled Key))) → IsOver texts scan → row < length scan.segment.rows → AreWords (counted_at scan row).numbers → cell ≡ cell_at scan row → cell < length old → kinds ≡ kinds_of scan.query → numbers ≡ (counted_at scan row).numbers → new ≡ set old cell (Some (filled_with kinds (counted_at scan row).key numbers (get_or old cell None))) → Adds scan.query texts (counted_at scan row ∷ []) (groups_held old) (groups_held new)
-filled_adds texts scan row cell kinds numbers old new over h words at inside k ns e =
+pub filled_adds : (texts : Texts) (scan : Scan) (row cell : ℕ) (old new : List (Option (Filled Key))) → IsOver texts scan → row < length scan.segment.rows → AreWords (counted_at scan row).numbers → cell ≡ cell_at scan row → cell < length old → new ≡ set old cell (Some (filled_with (kinds_of scan.query) (counted_at scan row).key (counted_at scan row).numbers (get_or old cell None))) → Adds scan.query texts (counted_at scan row ∷ []) (groups_held old) (groups_held new)
+filled_adds texts scan row cell old new over h words at inside e =
     let own = kinds_of scan.query in
-    let key = (counted_at scan row).key in
     let held = groups_held old in
     let long = length-map old (option_map group_of) in
     row_adds texts scan row held (groups_held new) over h words (omega (arith, at, inside, long))
-    (groups_filled old new cell kinds key numbers inside e
-    ∙ ap (λ ks. set held cell (Some (with_group ks (record { key = key; numbers = numbers }) (get_or held cell None)))) k
-    ∙ ap (λ xs. set held cell (Some (with_group own (record { key = key; numbers = xs }) (get_or held cell None)))) ns
+    (groups_filled old new cell own (counted_at scan row).key (counted_at scan row).numbers inside e
     ∙ ap (λ i. set held i (Some (with_group own (counted_at scan row) (get_or held i None)))) at)
 
 -- ---- slices of segments

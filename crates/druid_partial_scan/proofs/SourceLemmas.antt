@@ -10,15 +10,17 @@ use Rattle.druid_segment_rows.specs.Segment.{Segment, HaveWords, row_at}
 use Rattle.druid_query.specs.Query.{Query, Aggregator}
 use Rattle.druid_query.specs.declared.aggregator.AggregatorKind.{AggregatorKind}
 use Rattle.druid_query.specs.declared.aggregator.AggregatorKind.TheVariants.{Count, LongSum, LongMin, LongMax}
+use Rattle.druid_partial.specs.Partials.{kinds_of}
+use Rattle.druid_partial_scan.specs.declared.code_filter.CodeFilter.{CodeFilter}
 use Rattle.druid_partial_scan.specs.declared.located.NumberSource.{NumberSource}
 use Rattle.druid_partial_scan.specs.declared.cells.Numbers.{Numbers}
 use Rattle.druid_partial.specs.Groups.{AreWords}
 use Rattle.druid_partial_scan.specs.Rows.{number_in, one_or, taken, tells}
-use Rattle.druid_partial_scan.specs.Places.{sources_of, source_number, source_of}
-use Rattle.druid_partial_scan.specs.Cells.{Column, IsColumn, AreColumns, HasNumber, number_from}
-use Rattle.druid_partial_scan.specs.Scans.{AreFrom, AreNumbers}
+use Rattle.druid_partial_scan.specs.Places.{places_of, sources_of, source_number, source_of}
+use Rattle.druid_partial_scan.specs.Cells.{Column, HasCode, IsColumn, AreColumns, HasNumber, number_from}
+use Rattle.druid_partial_scan.specs.Scans.{Scan, IsScan, AreFrom, AreNumbers, counted_at}
 use Rattle.druid_partial.proofs.MergedLemmas.{IsWord}
-use Rattle.druid_partial_scan.proofs.RadixLemmas.{columns_more}
+use Rattle.druid_partial_scan.proofs.RadixLemmas.{columns_have, columns_more}
 use Rattle.druid_partial_scan.proofs.PlaceLemmas.{numbers_counted}
 
 numbers_push : (segment : Segment) (ss : List NumberSource) (ns : List Numbers) (s : NumberSource) (n : Numbers) → AreNumbers segment ss ns → AreFrom segment s n → AreNumbers segment (ss ++ s ∷ []) (ns ++ n ∷ [])
@@ -100,3 +102,30 @@ numbers_long query segment ns are = each (sources_of query segment.fields) ns ar
     each [] (m ∷ ms) a = absurd a
     each (x ∷ ss) [] a = absurd a
     each (x ∷ ss) (m ∷ ms) a = ap suc (each ss ms a.1)
+
+-- ---- a row of a scan
+
+-- by where the scan looks
+pub record IsRow (scan : Scan) (row : ℕ) (columns : List Column) (numbers : List Numbers) (kinds : List AggregatorKind) : Type 0 where
+  pub same : columns ≡ scan.columns
+  pub places : AreColumns scan.segment (places_of scan.query scan.segment.fields) scan.columns
+  pub codes : All (HasCode row) columns
+  pub has : All (HasNumber row) numbers
+  pub wide : length numbers ≡ length scan.query.aggregations
+  pub told : map (number_from row) numbers ≡ (counted_at scan row).numbers
+  pub words : AreWords (counted_at scan row).numbers
+  pub kinds_are : kinds ≡ kinds_of scan.query
+
+pub row_of : {query : Query} {segment : Segment} {times : List ℕ} {first : ℕ} {places : List (Option ℕ)} {columns : List Column} {numbers : List Numbers} {kinds : List AggregatorKind} {code_filter : Option CodeFilter} (scan : Scan) (row : ℕ) → IsScan query segment times first places columns numbers kinds code_filter → record { query = query; segment = segment; columns = columns } ≡ scan → row < length scan.segment.rows → IsRow scan row columns numbers kinds
+row_of {query = query} {segment = segment} {columns = columns} {numbers = numbers} {kinds = kinds} scan row is e =
+    let P : Scan → Type 0 = λ p. row < length p.segment.rows → IsRow p row columns numbers kinds in
+    subst P e (λ h. record {
+      same = refl;
+      places = is.columns_are;
+      codes = columns_have segment _ columns row is.columns_are h;
+      has = numbers_have segment _ numbers row is.numbers_are h;
+      wide = numbers_long query segment numbers is.numbers_are;
+      told = row_numbers_are query segment numbers row is.numbers_are h;
+      words = row_words query segment row is.words h;
+      kinds_are = is.kinds_are;
+    })

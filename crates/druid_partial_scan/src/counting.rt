@@ -1,5 +1,5 @@
 //! What a segment tells a query.
-ghost use Rattle.std.specs.Prelude.{◌≡◌, ◌≢◌, ◌+◌, ◌<◌, ◌≤◌, ◌^◌, ◌∷◌, ◌++◌, [], ℕ, List, length, All, IfOk, IfSome, OnOk, IsTrue, slice_index_or};
+ghost use Rattle.std.specs.Prelude.{◌≡◌, ◌≢◌, ◌+◌, ◌<◌, ◌≤◌, ◌^◌, ◌∷◌, ◌++◌, [], ℕ, List, set, length, All, Some, None, IfOk, IfSome, OnOk, IsTrue, slice_index_or};
 ghost use Rattle.druid_time.specs.Extent.{Extent};
 ghost use Rattle.druid_segment_rows.specs.Segment.{Segment, row_at};
 ghost use Rattle.druid_query.specs.Query.{Query};
@@ -9,10 +9,10 @@ ghost use Rattle.std.specs.List.{flat_map};
 ghost use Rattle.druid_partial.specs.Partials.{bucket_of, earliest, kinds_of, IsPartialFor};
 ghost use Rattle.druid_partial_scan.specs.Rows.{is_asked, counted_by};
 ghost use Rattle.druid_partial_scan.specs.Entries.{groups_of};
-ghost use Rattle.druid_partial_scan.specs.Cells.{room_from, cells_in, AreColumns};
+ghost use Rattle.druid_partial_scan.specs.Cells.{room_from, cells_in, is_there, joined_with, AreColumns};
 ghost use Rattle.druid_partial_scan.specs.Places.{places_of};
 ghost use Rattle.druid_partial_scan.specs.Slices.{texts_in, groups_held, AreCoded, IsRising, IsOver, Adds, Texts};
-ghost use Rattle.druid_partial_scan.specs.Scans.{counted_at, bucket_at, groups_in, groups_by, IsKept, IsJoined, IsJoinedBy, AreEntries, AreKept, AreCounted, AreUpto, AreCells, ComeBefore, HasRoom, HaveBucket, BucketsRise};
+ghost use Rattle.druid_partial_scan.specs.Scans.{counted_at, bucket_at, cell_at, groups_in, groups_by, IsKept, IsJoined, IsJoinedBy, AreEntries, AreKept, AreCounted, AreUpto, AreCells, ComeBefore, HasRoom, HaveBucket, BucketsRise};
 
 use crate::cells::{Numbers, Sparse, enter_row, numbers_at};
 use crate::code_filter::{CodeFilter, constant_of, filter_of, holds};
@@ -308,6 +308,42 @@ impl<'a> Scan<'a> {
         add_found(alloc, found, groups)
     }
 
+    // The number of a row's cell.
+    fn cell_at(&self, row: usize) -> usize
+        requires row { row < length self.now.segment.rows }
+        requires small { room_from self.now.columns 1 < 2 ^ 64 }
+        ensures value { result ≡ cell_at self.now row }
+        ensures inside { result < room_from self.now.columns 1 }
+        ensures columns { AreColumns self.now.segment (places_of self.now.query self.now.segment.fields) self.now.columns }
+    {
+        cell_of(&self.columns, row)
+    }
+
+    // Joins a row to the group of its cell. False where there is none.
+    fn join<K: Drop>(&self, cell: usize, row: usize, cells: &mut Cells<K>) -> bool
+        requires row { row < length self.now.segment.rows }
+        requires room { HasRoom self.now.query (room_from self.now.columns 1) cells.now }
+        requires cell { cell < room_from self.now.columns 1 }
+        ensures room { HasRoom self.now.query (room_from self.now.columns 1) cells.new }
+        ensures there { result ≡ is_there (slice_index_or cells.old.groups cell None) }
+        ensures groups { cells.new.groups ≡ set cells.old.groups cell
+            (joined_with (kinds_of self.now.query) (counted_at self.now row).numbers (slice_index_or cells.old.groups cell None)) }
+        ensures words { AreWords (counted_at self.now row).numbers }
+    {
+        cells.join(&self.kinds, &self.numbers, cell, row)
+    }
+
+    // Puts a group of one row into its cell.
+    fn fill<K: Drop>(&self, cell: usize, row: usize, kept: K, cells: &mut Cells<K>)
+        requires row { row < length self.now.segment.rows }
+        requires room { HasRoom self.now.query (room_from self.now.columns 1) cells.now }
+        requires cell { cell < room_from self.now.columns 1 }
+        ensures room { HasRoom self.now.query (room_from self.now.columns 1) cells.new }
+        ensures groups { cells.new.groups ≡ set cells.old.groups cell (Some (kept, (counted_at self.now row).numbers)) }
+    {
+        cells.put(&self.numbers, cell, row, kept);
+    }
+
     // Joins a row to the group of its cell.
     fn put(&self, row: usize, cells: &mut Cells<usize>)
         requires row { row < length self.now.segment.rows }
@@ -317,11 +353,11 @@ impl<'a> Scan<'a> {
         ensures joined { IsJoined self.now row (cells_in cells.old.groups) (cells_in cells.new.groups) }
         ensures words { AreWords (counted_at self.now row).numbers }
     {
-        let cell = cell_of(&self.columns, row);
-        if cells.join(&self.kinds, &self.numbers, cell, row) {
+        let cell = self.cell_at(row);
+        if self.join(cell, row, cells) {
             return;
         }
-        cells.put(&self.numbers, cell, row, row);
+        self.fill(cell, row, row, cells);
     }
 
     // What the rows of one bucket from one place to another tell, in their cells.
@@ -412,7 +448,7 @@ impl<'a> Scan<'a> {
         ensures joined { OnOk result (IsJoinedBy self.now row cells.old.entries cells.new.entries) }
         ensures words { AreWords (counted_at self.now row).numbers }
     {
-        let cell = cell_of(&self.columns, row);
+        let cell = self.cell_at(row);
         enter_row(alloc, &self.kinds, &self.numbers, cells, cell, row)
     }
 
@@ -497,12 +533,12 @@ impl<'a> Scan<'a> {
         ensures adds { OnOk result ((texts : Texts) → IsOver texts self.now
             → Adds self.now.query texts (counted_at self.now row ∷ []) (groups_held cells.old.groups) (groups_held cells.new.groups)) }
     {
-        let cell = cell_of(&self.columns, row);
-        if cells.join(&self.kinds, &self.numbers, cell, row) {
+        let cell = self.cell_at(row);
+        if self.join(cell, row, cells) {
             return Ok(());
         }
         let key = self.own_key(alloc, row)?;
-        cells.put(&self.numbers, cell, row, key);
+        self.fill(cell, row, key, cells);
         Ok(())
     }
 

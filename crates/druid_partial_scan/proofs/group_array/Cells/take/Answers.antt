@@ -1,14 +1,10 @@
 use Rattle.std.proofs.Common.{◌∙◌, ◌+◌, ◌-◌, ◌*◌, set, length, take, drop, None, false, ap, sym, arith, refl}
 use Rattle.druid_partial_scan.specs.Cells.{Cells}
-use Rattle.druid_partial_scan.proofs.FlatLemmas.{parts_inside, parts_put, taken_groups, taken_is, none_is}
+use Rattle.druid_partial_scan.proofs.FlatLemmas.{place_of, parts_put, taken_groups, taken_is, none_is}
 use Rattle.druid_partial_scan.proofs.group_array.Cells.take.Goals as goal
 
 pub index_mut-requires : goal.index_mut-requires
-index_mut-requires g c =
-    let e = ap (λ (v : Cells g.row.K.Denot). v.groups) c.self.view_is in
-    let n = c.self.inside.kept.ok.0 in
-    let h = (parts_inside c.self.inside.width _ _ _ c.args.self.now.groups c.args.cell c.self.invariant e c.requires).1 in
-    omega (arith, n, h)
+index_mut-requires g c = (place_of c.self.inside.width c.self.inside.filled c.self.inside.kept c.self.inside.numbers c.args.self.now c.args.cell c.self.invariant c.self.view_is c.requires).kept
 
 pub returns-in_default-clause-found : goal.returns-in_default-clause-found
 returns-in_default-clause-found g c =
@@ -22,32 +18,17 @@ returns-in_default-clause-groups g c =
     taken_groups c.self.inside.width c.self.inside.filled.items c.self.inside.kept.items _ c.self.inside.numbers.items c.args.self.now.groups c.args.cell c.self.invariant e c.requires (ap (set c.self.inside.kept.items c.args.cell) c.take.ensures.after)
 
 pub index_mut-requires-2 : goal.index_mut-requires-2
-index_mut-requires-2 g c =
-    let e = ap (λ (v : Cells g.row.K.Denot). v.groups) c.self.view_is in
-    let n = c.self.inside.filled.ok.0 in
-    let h = (parts_inside c.self.inside.width _ _ _ c.args.self.now.groups c.args.cell c.self.invariant e c.requires).0 in
-    omega (arith, n, h)
+index_mut-requires-2 g c = (place_of c.self.inside.width c.self.inside.filled c.self.inside.kept c.self.inside.numbers c.args.self.now c.args.cell c.self.invariant c.self.view_is c.requires).mark
 
 pub overflow_mul-from : goal.overflow_mul-from
-overflow_mul-from g c =
-    let e = ap (λ (v : Cells g.row.K.Denot). v.groups) c.self.view_is in
-    let n = c.self.inside.numbers.ok.0 in
-    let h = (parts_inside c.self.inside.width _ _ _ c.args.self.now.groups c.args.cell c.self.invariant e c.requires).2 in
-    let s = c.self.inside.numbers.small in
-    omega (arith, n, h, s)
+overflow_mul-from g c = let h = (place_of c.self.inside.width c.self.inside.filled c.self.inside.kept c.self.inside.numbers c.args.self.now c.args.cell c.self.invariant c.self.view_is c.requires).from_small in omega (arith, h)
 
 pub overflow_add-to : goal.overflow_add-to
-overflow_add-to g c =
-    let e = ap (λ (v : Cells g.row.K.Denot). v.groups) c.self.view_is in
-    let n = c.self.inside.numbers.ok.0 in
-    let h = (parts_inside c.self.inside.width _ _ _ c.args.self.now.groups c.args.cell c.self.invariant e c.requires).2 in
-    let s = c.self.inside.numbers.small in
-    omega (arith, n, h, s)
+overflow_add-to g c = let h = (place_of c.self.inside.width c.self.inside.filled c.self.inside.kept c.self.inside.numbers c.args.self.now c.args.cell c.self.invariant c.self.view_is c.requires).to_small in omega (arith, h)
 
 pub copied-requires-clause-inside : goal.copied-requires-clause-inside
 copied-requires-clause-inside g c =
-    let e = ap (λ (v : Cells g.row.K.Denot). v.groups) c.self.view_is in
-    let h = (parts_inside c.self.inside.width _ _ _ c.args.self.now.groups c.args.cell c.self.invariant e c.requires).2 in
+    let h = (place_of c.self.inside.width c.self.inside.filled c.self.inside.kept c.self.inside.numbers c.args.self.now c.args.cell c.self.invariant c.self.view_is c.requires).to in
     let s = ap length c.deref.ensures.value in
     omega (arith, h, s)
 
