@@ -1,12 +1,14 @@
 -- Two arrays of groups over the same texts, joined cell by cell.
 use Rattle.std.proofs.Common.{◌≡◌, ◌∙◌, ℕ, zero, suc, List, [], ◌∷◌, ◌++◌, length, take, drop, Option, Some, None, refl, sym, ap, subst, arith}
 use Rattle.std.specs.Prelude.{All, slice_get, option_map}
+use Rattle.std.specs.Borrow.{Bor}
 use Rattle.std.specs.Ordering.{nat_cmp, match_ordering}
 use Rattle.std.specs.declared.cmp.Ordering.TheVariants.{Less, Equal, Greater}
 use Rattle.std.specs.List.{flat_map}
 use Rattle.std.proofs.lemmas.List.{length-map, take-append-drop}
 use Rattle.std.proofs.lemmas.List.Concat.{flat_map-append}
 use Rattle.std.proofs.lemmas.List.Elements.{All-contains}
+use Rattle.druid_base.proofs.ClauseLemmas.{if_some}
 use Rattle.druid_base.proofs.OrderLemmas.{nat_cmp-lt, nat_cmp-gt}
 use Rattle.druid_query.specs.Query.{Query}
 use Rattle.druid_query.specs.declared.aggregator.AggregatorKind.{AggregatorKind}
@@ -18,7 +20,7 @@ use Rattle.druid_partial.proofs.MergedLemmas.{merged_is_merge}
 use Rattle.druid_partial.proofs.JoinLemmas.{merged_each, has_joined, group_for}
 use Rattle.druid_partial_scan.specs.Cells.{Filled, Cells, joined_cell, joined_cells}
 use Rattle.druid_partial_scan.specs.Scans.{AreCounted}
-use Rattle.druid_partial_scan.specs.Slices.{Texts, IsRising, IsHeld, AreHeld, group_of, groups_held, present, IsTally}
+use Rattle.druid_partial_scan.specs.Slices.{Texts, IsRising, IsHeld, AreHeld, group_of, groups_held, present, texts_in, IsTally, AreTallied}
 use Rattle.druid_partial_scan.specs.Told.{Slice, told_by}
 use Rattle.druid_partial_scan.proofs.RadixLemmas.{equal_is}
 use Rattle.druid_partial_scan.proofs.RankLemmas.{next_rank}
@@ -124,7 +126,7 @@ merged_counted query a b x y p q =
     }
 
 -- what two parts of the slices tell
-pub told_both : (query : Query) (slices front back : List Slice) (n : ℕ) → front ≡ take n slices → back ≡ drop n slices → flat_map (told_by query) slices ≡ flat_map (told_by query) front ++ flat_map (told_by query) back
+told_both : (query : Query) (slices front back : List Slice) (n : ℕ) → front ≡ take n slices → back ≡ drop n slices → flat_map (told_by query) slices ≡ flat_map (told_by query) front ++ flat_map (told_by query) back
 told_both query slices front back n f b =
     ap (flat_map (told_by query)) (sym ((λ i. f i ++ b i) ∙ take-append-drop n slices)) ∙ flat_map-append (told_by query) front back
 
@@ -134,8 +136,8 @@ joined_long kinds (x ∷ xs) [] = refl
 joined_long kinds (x ∷ xs) (y ∷ ys) = ap suc (joined_long kinds xs ys)
 
 -- arrays of rows apart, joined, are that of all rows
-pub both_tallied : (query : Query) (texts : Texts) (a b rows : List Group) (mine theirs new : Cells Key) → All IsRising texts → rows ≡ a ++ b → new.width ≡ mine.width → new.groups ≡ joined_cells (kinds_of query) mine.groups theirs.groups → IsTally query texts a mine → IsTally query texts b theirs → IsTally query texts rows new
-both_tallied query texts a b rows mine theirs new rising both w is p q =
+both_rows : (query : Query) (texts : Texts) (a b rows : List Group) (mine theirs new : Cells Key) → All IsRising texts → rows ≡ a ++ b → new.width ≡ mine.width → new.groups ≡ joined_cells (kinds_of query) mine.groups theirs.groups → IsTally query texts a mine → IsTally query texts b theirs → IsTally query texts rows new
+both_rows query texts a b rows mine theirs new rising both w is p q =
     let kinds = kinds_of query in
     let xs = groups_held mine.groups in
     let ys = groups_held theirs.groups in
@@ -151,3 +153,20 @@ both_tallied query texts a b rows mine theirs new rising both w is p q =
       held = subst H (sym whole) (all_at kinds (IsHeld query texts) (joined_is_held query texts) xs ys p.held q.held);
       counted = subst C (sym (ap present whole ∙ there)) (subst R (sym both) (merged_counted query a b (present xs) (present ys) p.counted q.counted));
     }
+
+-- ---- the arrays of two parts of the slices
+
+-- they have one room
+pub both_alike : (query : Query) (lists : List (Bor (List (Bor (List ℕ))))) (front back : List Slice) (left right : Option (Cells Key)) (mine theirs : Cells Key) → left ≡ Some mine → right ≡ Some theirs → AreTallied query lists front left → AreTallied query lists back right → (theirs.width ≡ mine.width) × (length theirs.groups ≡ length mine.groups)
+both_alike query lists front back left right mine theirs l r a b =
+    let texts = texts_in lists in
+    let p = if_some (IsTally query texts (flat_map (told_by query) front)) left mine l a in
+    let q = if_some (IsTally query texts (flat_map (told_by query) back)) right theirs r b in
+    (q.room.width ∙ sym p.room.width, q.room.long ∙ sym p.room.long)
+
+pub both_tallied : (query : Query) (lists : List (Bor (List (Bor (List ℕ))))) (slices front back : List Slice) (n : ℕ) (left right : Option (Cells Key)) (mine theirs new : Cells Key) → All IsRising (texts_in lists) → front ≡ take n slices → back ≡ drop n slices → new.width ≡ mine.width → new.groups ≡ joined_cells (kinds_of query) mine.groups theirs.groups → left ≡ Some mine → right ≡ Some theirs → AreTallied query lists front left → AreTallied query lists back right → AreTallied query lists slices (Some new)
+both_tallied query lists slices front back n left right mine theirs new rising f s w is l r a b =
+    let texts = texts_in lists in
+    both_rows query texts (flat_map (told_by query) front) (flat_map (told_by query) back) (flat_map (told_by query) slices) mine theirs new rising (told_both query slices front back n f s) w is
+    (if_some (IsTally query texts (flat_map (told_by query) front)) left mine l a)
+    (if_some (IsTally query texts (flat_map (told_by query) back)) right theirs r b)

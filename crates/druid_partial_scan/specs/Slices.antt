@@ -1,7 +1,8 @@
 -- Groups of all rows that a query asks of several segments, in one array. Only proofs and private functions use this: what it
 -- means is in Groups.
-use Rattle.std.specs.Prelude.{◌≡◌, ℕ, ◌+◌, ◌*◌, ◌<◌, ◌≤◌, List, [], ◌∷◌, ◌++◌, length, map, slice_get, All, Option, Some, None, option_map, ⊤}
+use Rattle.std.specs.Prelude.{◌≡◌, ℕ, ◌+◌, ◌*◌, ◌<◌, ◌≤◌, List, [], ◌∷◌, ◌++◌, length, map, slice_get, All, IfSome, Option, Some, None, option_map, ⊤}
 use Rattle.std.specs.Borrow.{Bor}
+use Rattle.std.specs.List.{flat_map}
 use Rattle.std.specs.List.Sorted.{IsStrictlySortedBy}
 use Rattle.std.specs.Ordering.{nat_cmp}
 use Rattle.std.specs.Cmp.Lexicographic.{slice_cmp}
@@ -14,6 +15,7 @@ use Rattle.druid_partial.specs.Groups.{Group, Key}
 use Rattle.druid_partial.specs.Partials.{earliest, kinds_of, HasNumbers}
 use Rattle.druid_partial_scan.specs.Places.{at_place, places_of}
 use Rattle.druid_partial_scan.specs.Cells.{Column, code_at, HasCode, join_into, Filled, Cells}
+use Rattle.druid_partial_scan.specs.Told.{Slice, told_by}
 use Rattle.druid_partial_scan.specs.Scans.{Scan, AreCounted, HasRoom}
 
 -- ---- values by codes of the query
@@ -120,3 +122,12 @@ pub record IsTally (query : Query) (texts : Texts) (rows : List Group) (cells : 
   pub room : HasRoom query (room_over texts 1) cells
   pub held : AreHeld query texts (groups_held cells.groups)
   pub counted : AreCounted query rows (present (groups_held cells.groups))
+
+-- what it takes to count a query's rows by these texts, into an array of so much room
+abbrev pub CanTally : Query → List (Bor (List (Bor (List ℕ)))) → ℕ → Type 0
+CanTally query lists room =
+    (query.granularity ≡ granularity.All) × (length lists ≡ length query.dimensions) × All IsRising (texts_in lists) × (room ≡ room_over (texts_in lists) 1)
+
+-- the groups of what slices tell, where there are any
+abbrev pub AreTallied : Query → List (Bor (List (Bor (List ℕ)))) → List Slice → Option (Cells Key) → Type 0
+AreTallied query lists slices found = IfSome found (IsTally query (texts_in lists) (flat_map (told_by query) slices))

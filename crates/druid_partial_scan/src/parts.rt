@@ -1,10 +1,10 @@
 //! What several segments tell a query, counted on several threads.
-ghost use Rattle.std.specs.Prelude.{◌≡◌, length, All, IfOk, IfSome};
+ghost use Rattle.std.specs.Prelude.{◌≡◌, IfOk, IfSome};
 ghost use Rattle.std.specs.List.{flat_map};
 ghost use Rattle.druid_time.specs.declared.granularity.Granularity.TheVariants as granularity;
 ghost use Rattle.druid_partial.specs.Groups.{IsResult};
 ghost use Rattle.druid_partial.specs.Partials.{kinds_of, IsPartialFor};
-ghost use Rattle.druid_partial_scan.specs.Slices.{texts_in, room_over, IsRising, IsTally};
+ghost use Rattle.druid_partial_scan.specs.Slices.{CanTally, AreTallied};
 ghost use Rattle.druid_partial_scan.specs.Told.{told_by};
 
 use crate::group_array::Cells;
@@ -33,11 +33,8 @@ fn tally_in_parts<'a, R: Threads>(
     room: usize,
     threads: usize,
 ) -> Result<Option<Cells<Key>>, AllocError>
-    requires one { query.now.granularity ≡ granularity.All }
-    requires long { length lists.now ≡ length query.now.dimensions }
-    requires rising { All IsRising (texts_in lists.now) }
-    requires room { room ≡ room_over (texts_in lists.now) 1 }
-    ensures { IfOk result (λ found. IfSome found (IsTally query.now (texts_in lists.now) (flat_map (told_by query.now) slices.now))) }
+    requires { CanTally query.now lists.now room }
+    ensures { IfOk result (AreTallied query.now lists.now slices.now) }
 {
     if threads <= 1 {
         return tally(alloc, query, slices, lists, room);
@@ -47,12 +44,12 @@ fn tally_in_parts<'a, R: Threads>(
     let (left, right) = join(
         rt,
         || -> Result<Option<Cells<Key>>, AllocError>
-            requires { (query.now.granularity ≡ granularity.All) × (length lists.now ≡ length query.now.dimensions) × All IsRising (texts_in lists.now) × (room ≡ room_over (texts_in lists.now) 1) }
-            ensures { IfOk result (λ found. IfSome found (IsTally query.entry.now (texts_in lists.entry.now) (flat_map (told_by query.entry.now) front.entry.now))) }
+            requires { CanTally query.now lists.now room }
+            ensures { IfOk result (AreTallied query.entry.now lists.entry.now front.entry.now) }
         { tally(alloc, query, front, lists, room) },
         || -> Result<Option<Cells<Key>>, AllocError>
-            requires { (query.now.granularity ≡ granularity.All) × (length lists.now ≡ length query.now.dimensions) × All IsRising (texts_in lists.now) × (room ≡ room_over (texts_in lists.now) 1) }
-            ensures { IfOk result (λ found. IfSome found (IsTally query.entry.now (texts_in lists.entry.now) (flat_map (told_by query.entry.now) back.entry.now))) }
+            requires { CanTally query.now lists.now room }
+            ensures { IfOk result (AreTallied query.entry.now lists.entry.now back.entry.now) }
         { tally_in_parts(rt, alloc, query, back, lists, room, rest) },
     );
     let Some(mut cells) = left? else {
