@@ -3,7 +3,7 @@
 
 promtool.py [ADDRESS..]
 
-Without addresses it takes the texts that crates/druid_telemetry_tests compares with what is rendered, so what passes here is what is
+Without addresses it takes the texts that crates/druid_device_tests compares with what is rendered, so what passes here is what is
 rendered. With addresses it asks each, such as 127.0.0.1:9082, for `GET /metrics`, and looks at the type of content too.
 It needs promtool, of Debian's package prometheus.
 """
@@ -17,11 +17,11 @@ TYPE = 'text/plain; version=0.0.4; charset=utf-8'
 
 def texts():
     """The texts of the tests, by the names of their constants."""
-    source = open(f'{TOP}/crates/druid_telemetry_tests/src/metrics.rt').read()
+    source = open(f'{TOP}/crates/druid_device_tests/src/metrics.rt').read()
     found = re.findall(r'const (OF_\w+): &str =\s*"((?:[^"\\]|\\.)*)";', source)
     unescape = lambda text: re.sub(r'\\(.)', lambda it: {'n': '\n'}.get(it[1], it[1]), text)
     if len(found) < 3:
-        sys.exit('crates/druid_telemetry_tests has fewer than three such texts: of a server, a node and a broker')
+        sys.exit('crates/druid_device_tests has fewer than three such texts: of a server, a node and a broker')
     return [(name, unescape(text)) for name, text in found]
 
 

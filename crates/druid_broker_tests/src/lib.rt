@@ -46,3 +46,5 @@ mod sockets;
 mod turns;
 #[cfg(test)]
 mod unread;
+#[cfg(test)]
+mod watcher;
