@@ -1,14 +1,16 @@
 #!/usr/bin/env python3
 """Runs a command of the toolchain and says where its processor time went, by crate and phase, and what each must-fail edit took.
 
-gate_cost.py COMMAND..     as `dev/gate_cost.py .ci/run` at the top of the repository
+gate_cost.py COMMAND..     as `dev/gate_cost.py rt ci` at the top of the repository
+
+The command's last line comes after the figures, and its status is the status.
 
 Phases: proof (the crate), tests (a crate of tests), edits (its must-fail edits, with the proof that they begin with), and other
 programs by their name. Processor minutes hold on a busy machine better than minutes by the clock; `from` and `to` are minutes by
 the clock since the start. What an edit took stands apart, in processor seconds: `begins` is the proof that the edits of a crate
 begin with and the last look at it, which a crate with two edits or more pays once. It reads /proc once a second.
 """
-import argparse, collections, glob, os, re, shutil, subprocess, sys, time
+import argparse, collections, glob, os, re, shutil, subprocess, sys, threading, time
 
 sys.dont_write_bytecode = True
 sys.path.insert(0, os.path.join(os.path.dirname(os.path.dirname(os.path.abspath(__file__))), 'tools'))
@@ -68,6 +70,21 @@ def work_of(pid):
     return Work(crate, 'edits', names[0] if len(names) == 1 else 'begins')
 
 
+def pass_on(stream):
+    """Prints the lines of a stream as they come, but for the last one, which the list that it gives has once the stream ends."""
+    held = []
+
+    def run():
+        for line in stream:
+            if held:
+                print(held.pop(), end='', flush=True)
+            held.append(line)
+
+    thread = threading.Thread(target=run)
+    thread.start()
+    return thread, held
+
+
 def watch(child):
     start, last, works, spans, total = time.time(), {}, {}, {}, collections.Counter()
     while child.poll() is None:
@@ -97,10 +114,12 @@ def tell(total, spans, minutes):
     for phase, ticks in phases.most_common():
         print(f"{'all':<24}{phase:<12}{ticks / HZ / 60:14.1f}")
     print(f"{'all':<36}{sum(total.values()) / HZ / 60:14.1f}{0:7.0f}{minutes:7.0f}")
-    print(f"\n{'crate':<24}{'edit':<44}{'processor s':>12}")
-    for work, ticks in sorted(total.items(), key=lambda it: (it[0].crate, -it[1])):
-        if work.edit:
-            print(f'{work.crate:<24}{work.edit:<44}{ticks / HZ:12.0f}')
+    edits = sorted(((work.crate, -ticks, work.edit) for work, ticks in total.items() if work.edit))
+    if edits:
+        print(f"\n{'crate':<24}{'edit':<44}{'processor s':>12}")
+    for crate, ticks, edit in edits:
+        print(f'{crate:<24}{edit:<44}{-ticks / HZ:12.0f}')
+    print()
 
 
 def main():
@@ -109,8 +128,12 @@ def main():
     words = parser.parse_args().command or parser.error('no command')
     if not shutil.which(words[0]):
         sys.exit(f'{words[0]} is not there')
-    child = subprocess.Popen(words)
-    tell(*watch(child))
+    child = subprocess.Popen(words, stdout=subprocess.PIPE, text=True, errors='replace')
+    thread, held = pass_on(child.stdout)
+    seen = watch(child)
+    thread.join()
+    tell(*seen)
+    print(*held, end='', flush=True)
     return child.returncode
 
 
