@@ -9,6 +9,7 @@ that one. The rows of each answer are counted. (An answer of a broker ends at 16
 """
 import json
 import os
+import socket
 import statistics
 import subprocess
 import sys
@@ -16,7 +17,7 @@ import tempfile
 import time
 
 sys.path.insert(0, os.path.join(os.path.dirname(os.path.dirname(os.path.abspath(__file__))), 'tests'))
-from served import DAY, PROGRAM, QUERY, Segment, exchange, free_ports, need_program, parser_of, write_segments  # noqa: E402
+from served import DAY, PROGRAM, QUERY, Segment, exchange, free_ports, need_program, parser_of, request, write_segments  # noqa: E402
 
 START = 1_704_067_200_000
 WHOLE, HALVES = '2024-01-01T00:00Z/2024-01-02T00:00Z', ('2024-01-01T00:00Z/2024-01-01T12:00Z', '2024-01-01T12:00Z/2024-01-02T00:00Z')
@@ -67,17 +68,25 @@ def wait_for(port):
     raise SystemExit(f'nothing answers at {port}')
 
 
+def timed(port, body):
+    """How long it takes until the last byte of an answer has come, and the answer with its head."""
+    began = time.perf_counter()
+    with socket.create_connection(('127.0.0.1', port), timeout=70) as stream:
+        stream.sendall(request('POST', QUERY, body))
+        parts = list(iter(lambda: stream.recv(1 << 20), b''))
+        return time.perf_counter() - began, b''.join(parts)
+
+
 def median(port, body, runs, whole):
     """Of so many answers, once one is whole."""
     spent = []
     until = time.monotonic() + 60
     while len(spent) <= runs:
-        began = time.perf_counter()
-        status, answer = exchange(port, 'POST', QUERY, body)
-        if whole(status, answer):
-            spent.append(time.perf_counter() - began)
+        took, answer = timed(port, body)
+        if whole(answer):
+            spent.append(took)
         elif spent or time.monotonic() > until:
-            raise SystemExit(f'another answer: {status} {answer[:200]}')
+            raise SystemExit(f'another answer: {answer[:200]}')
     return statistics.median(spent[1:])
 
 
@@ -102,10 +111,10 @@ def main():
             with Apart(folder, nodes) as cluster:
                 if alone is None:
                     alone = median(cluster.nodes[0], json.dumps(subquery()).encode(), asked.runs,
-                                   lambda status, answer: status == 200 and answer.count(b'n0_') == asked.groups)
+                                   lambda answer: answer.count(b'n0_') == asked.groups)
                     print(f'one node alone, {asked.groups:,} groups: {alone * 1e3:8.1f} ms', flush=True)
                 spent = median(cluster.broker, json.dumps(ASKED).encode(), asked.runs,
-                               lambda status, answer: status == 200 and answer.count(b'"d":') == nodes * asked.groups)
+                               lambda answer: answer.count(b'"d":') == nodes * asked.groups)
                 print(f'a broker over {nodes} nodes: {nodes * asked.groups:9,} groups {spent * 1e3:8.1f} ms ({spent / alone:5.2f} of one node)',
                       flush=True)
 
