@@ -240,8 +240,36 @@ fn watcher_of<R: Wait + Clock + Copy + Drop>(
     ))
 }
 
-// Starts a syncer for each node, which takes a view.
+// What follows the node of that number, over this view.
 #[tactic(auto, using(crate::proofs::LinkLemmas::link_at))]
+fn syncer_of<R: Net + Clock + Wait + Copy + Drop, J: Publication>(
+    rt: &R,
+    alloc: Global,
+    health: &Arc<Health, Global>,
+    report: &TurnReport<'_>,
+    nodes: &[NodeConfig],
+    publisher: &Shared<J, R>,
+    node: usize,
+    view: View<J>,
+) -> Result<Syncer<R, J, NodeLink<R>>, DeviceFailed>
+    requires node { node < length nodes.now }
+    requires nodes { length nodes.now ≤ max_nodes }
+    requires there { length nodes.now ≡ length J.opening }
+    requires report { length report.now.nodes.now ≡ length nodes.now }
+    ensures { IfOk result (λ syncer. IsLinkAt (arc_value health.now).patience nodes.now syncer.node syncer.link) }
+{
+    let number = node as NodeNo;
+    let link = link_to(rt, alloc, health, number, &nodes[node], Asker::Syncer)?;
+    Ok(Syncer {
+        node: number,
+        view,
+        link,
+        watcher: watcher_of(rt, alloc, report, node)?,
+        publisher: Arc::try_clone(publisher)?,
+    })
+}
+
+// Starts a syncer for each node, which takes a view.
 fn start_syncers<
     R: Net<Listener = TcpListener, Stream = TcpStream> + Host + Copy + Send + Sync + 'static,
     J: Publication + Send + Sync + 'static,
@@ -270,26 +298,40 @@ fn start_syncers<
         let Some(view) = views.pop() else {
             unreachable!()
         };
-        let syncer = Syncer {
-            node: node as NodeNo,
-            view,
-            link: link_to(
-                rt,
-                alloc,
-                health,
-                node as NodeNo,
-                &nodes[node],
-                Asker::Syncer,
-            )?,
-            watcher: watcher_of(rt, alloc, report, node)?,
-            publisher: Arc::try_clone(publisher)?,
-        };
+        let syncer = syncer_of(rt, alloc, health, report, nodes, publisher, node, view)?;
         syncers.push(start_syncer::<R, J, C>(rt, alloc, pace, syncer)?)?;
     }
     Ok(syncers)
 }
 
-// Starts a worker over each of these views.
+// What threads of a broker share: how its nodes do, what is counted of its turns with them and of its connections.
+#[derive(Drop)]
+struct Counted {
+    gate: Arc<Gate, Global>,
+    health: Arc<Health, Global>,
+    followed: Arc<Vec<FollowedNode>, Global>,
+}
+
+// Nothing was counted yet of these nodes, so many; exchanges with them may take so many milliseconds.
+fn counted_of(
+    alloc: Global,
+    nodes: &[NodeConfig],
+    count: u16,
+    patience: u64,
+) -> Result<Counted, DeviceFailed>
+    requires { count ≤ max_nodes }
+    ensures followed { IfOk result (λ counted. vec_len (arc_value counted.followed) ≡ length nodes.now) }
+    ensures patience { IfOk result (λ counted. (arc_value counted.health).patience ≡ patience) }
+{
+    let health = Health::new(alloc, count, patience)?;
+    Ok(Counted {
+        gate: Arc::new(alloc, Gate::new())?,
+        health: Arc::new(alloc, health)?,
+        followed: Arc::new(alloc, followed_nodes(alloc, nodes)?)?,
+    })
+}
+
+// Opens what comes to a broker, and starts a worker over each of these views.
 fn start_workers<
     R: Net<Listener = TcpListener, Stream = TcpStream> + Host + Copy + Send + Sync + 'static,
     J: Publication + Send + Sync + 'static,
@@ -297,23 +339,28 @@ fn start_workers<
 >(
     rt: &R,
     alloc: Global,
+    front: u16,
+    listener: Arc<TcpListener, Global>,
     views: Vec<View<J>>,
-    health: &Arc<Health, Global>,
     nodes: &[NodeConfig],
     publisher: &Shared<J, R>,
     telemetry: &Telemetry,
-    gate: &Arc<Gate, Global>,
-    followed: &Arc<Vec<FollowedNode>, Global>,
-    source: &Source,
+    counted: &Counted,
 ) -> Result<(), DeviceFailed>
     requires cluster { nodes.now ≡ C.nodes }
     requires nodes { length nodes.now ≤ max_nodes }
     requires there { length nodes.now ≡ length J.opening }
 {
+    let Counted {
+        gate,
+        health,
+        followed,
+    } = counted;
+    let source = Source::open(rt, alloc, front, listener, gate)?;
     for view in views {
         let worker = worker_of(rt, alloc, view, health, nodes, publisher)?;
         start_worker::<R, J, C, Worker<R, J>>(
-            rt, alloc, worker, telemetry, gate, followed, source,
+            rt, alloc, worker, telemetry, gate, followed, &source,
         )?;
     }
     Ok(())
@@ -365,31 +412,36 @@ pub(crate) fn start_broker<
         log,
         status,
     } = parts;
-    let gate = Arc::new(alloc, Gate::new())?;
-    let health = Arc::new(alloc, Health::new(alloc, count, pace.patience)?)?;
+    let counted = counted_of(alloc, nodes, count, pace.patience)?;
     let (publisher, mut views) = open_views::<J, C, R>(rt, alloc, list, inventory, workers)?;
-    let followed = Arc::new(alloc, followed_nodes(alloc, nodes)?)?;
     let report = TurnReport {
         server: telemetry.name(),
         log: &log,
-        nodes: &followed,
+        nodes: &counted.followed,
     };
     let syncers = start_syncers::<R, J, C>(
-        rt, alloc, pace, &health, &report, nodes, &publisher, &mut views,
-    )?;
-    let source = Source::open(rt, alloc, front, listener, &gate)?;
-    start_workers::<R, J, C>(
-        rt, alloc, views, &health, nodes, &publisher, &telemetry, &gate, &followed, &source,
-    )?;
-    start_status_of(
         rt,
         alloc,
-        status,
-        BrokerStatus {
-            telemetry,
-            nodes: followed,
-            health,
-        },
+        pace,
+        &counted.health,
+        &report,
+        nodes,
+        &publisher,
+        &mut views,
     )?;
+    start_workers::<R, J, C>(
+        rt, alloc, front, listener, views, nodes, &publisher, &telemetry, &counted,
+    )?;
+    let Counted {
+        gate,
+        health,
+        followed,
+    } = counted;
+    let shown = BrokerStatus {
+        telemetry,
+        nodes: followed,
+        health,
+    };
+    start_status_of(rt, alloc, status, shown)?;
     Ok(Broker { gate, syncers })
 }

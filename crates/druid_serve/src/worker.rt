@@ -47,14 +47,32 @@ pub(crate) struct Worker<R: Net + Clock + Wait + Drop, J: Publication> {
 // What each request is answered by, whichever worker has it: where its path leads, where it is logged and counted, and the nodes
 // by their numbers.
 #[derive(Drop)]
-struct Service<'a> {
-    routes: &'a Routes,
-    telemetry: &'a Telemetry,
-    gate: &'a Gate,
-    nodes: &'a [FollowedNode],
+struct Service {
+    routes: Routes,
+    telemetry: Telemetry,
+    gate: Arc<Gate, Global>,
+    nodes: Arc<Vec<FollowedNode>, Global>,
 }
 
-impl Service<'_> {
+impl Service {
+    // That of another thread.
+    fn new(
+        alloc: Global,
+        telemetry: &Telemetry,
+        gate: &Arc<Gate, Global>,
+        nodes: &Arc<Vec<FollowedNode>, Global>,
+    ) -> Result<Service, DeviceFailed> {
+        let Ok(routes) = Routes::new(alloc) else {
+            return Err(DeviceFailed);
+        };
+        Ok(Service {
+            routes,
+            telemetry: telemetry.share()?,
+            gate: Arc::try_clone(gate)?,
+            nodes: Arc::try_clone(nodes)?,
+        })
+    }
+
     // Logs how many exchanges with a node met a limit of 16 MiB, where some did.
     fn tell_met<R: Wait + Clock>(
         &self,
@@ -77,7 +95,8 @@ impl Service<'_> {
     // Logs what met a limit of 16 MiB since that was last logged, of each node.
     fn tell_oversize<R: Wait + Clock>(&self, rt: &R, alloc: Global, health: &Health) {
         let mut number: NodeNo = 0;
-        for node in self.nodes {
+        let nodes: &[FollowedNode] = &self.nodes;
+        for node in nodes {
             if let Some(oversize) = health.take_oversize(number) {
                 self.tell_met(rt, alloc, node, "TooLarge", oversize.answers);
                 self.tell_met(rt, alloc, node, "X7", oversize.questions);
@@ -97,7 +116,7 @@ fn serve<
 >(
     rt: &R,
     alloc: Global,
-    service: &Service<'_>,
+    service: &Service,
     worker: &mut Worker<R, J>,
     reader: &mut B,
     writer: &mut W,
@@ -112,7 +131,7 @@ fn serve<
     let served = serve_one(
         rt,
         alloc,
-        service.routes,
+        &service.routes,
         reader,
         writer,
         &mut worker.view,
@@ -134,7 +153,7 @@ fn send<
 >(
     rt: &R,
     alloc: Global,
-    service: &Service<'_>,
+    service: &Service,
     worker: &mut Worker<R, J>,
     reader: &mut B,
     writer: &mut W,
@@ -155,7 +174,7 @@ fn answer<
 >(
     rt: &R,
     alloc: Global,
-    service: &Service<'_>,
+    service: &Service,
     worker: &mut Worker<R, J>,
     stream: &TcpStream,
 ) -> Option<u16>
@@ -185,13 +204,7 @@ fn answer<
 fn take<
     R: Net<Listener = TcpListener, Stream = TcpStream> + Host + Copy + Send + Sync,
     J: Publication,
->(
-    rt: &R,
-    alloc: Global,
-    service: &Service<'_>,
-    worker: &mut Worker<R, J>,
-    stream: TcpStream,
-) -> bool
+>(rt: &R, alloc: Global, service: &Service, worker: &mut Worker<R, J>, stream: TcpStream) -> bool
     ensures view { IsPrefix worker.old.view worker.new.view }
     ensures leads { (nodes : List Node) → LeadTo nodes worker.old.links.items → LeadTo nodes worker.new.links.items }
     ensures turn { worker.new.turn ≡ (if result then min (worker.old.turn + 1) (2 ^ 64 - 1) else worker.old.turn) }
@@ -215,7 +228,7 @@ fn answer_connections<
 >(
     rt: &R,
     alloc: Global,
-    service: &Service<'_>,
+    service: &Service,
     worker: Worker<R, J>,
     listener: &TcpListener,
 ) -> Worker<R, J>
@@ -246,7 +259,7 @@ fn answer_bytes<
 >(
     rt: &R,
     alloc: Global,
-    service: &Service<'_>,
+    service: &Service,
     worker: &mut Worker<R, J>,
     request: &[u8],
 ) -> Option<(u16, Vec<u8>)>
@@ -279,7 +292,7 @@ fn answer_bytes<
 fn take_job<
     R: Net<Listener = TcpListener, Stream = TcpStream> + Host + Copy + Send + Sync,
     J: Publication,
->(rt: &R, alloc: Global, service: &Service<'_>, worker: &mut Worker<R, J>, job: Job) -> bool
+>(rt: &R, alloc: Global, service: &Service, worker: &mut Worker<R, J>, job: Job) -> bool
     ensures view { IsPrefix worker.old.view worker.new.view }
     ensures leads { (nodes : List Node) → LeadTo nodes worker.old.links.items → LeadTo nodes worker.new.links.items }
     ensures turn { worker.new.turn ≡ (if result then min (worker.old.turn + 1) (2 ^ 64 - 1) else worker.old.turn) }
@@ -298,7 +311,7 @@ fn take_job<
 fn answer_front<
     R: Net<Listener = TcpListener, Stream = TcpStream> + Host + Copy + Send + Sync,
     J: Publication,
->(rt: &R, alloc: Global, service: &Service<'_>, worker: Worker<R, J>, jobs: &Jobs) -> Worker<R, J>
+>(rt: &R, alloc: Global, service: &Service, worker: Worker<R, J>, jobs: &Jobs) -> Worker<R, J>
     ensures view { IsPrefix worker.view result.view }
     ensures leads { (nodes : List Node) → LeadTo nodes worker.links.items → LeadTo nodes result.links.items }
 {
@@ -321,13 +334,7 @@ fn answer_front<
 fn work<
     R: Net<Listener = TcpListener, Stream = TcpStream> + Host + Copy + Send + Sync,
     J: Publication,
->(
-    rt: &R,
-    alloc: Global,
-    service: &Service<'_>,
-    worker: Worker<R, J>,
-    source: &Source,
-) -> Worker<R, J>
+>(rt: &R, alloc: Global, service: &Service, worker: Worker<R, J>, source: &Source) -> Worker<R, J>
     ensures view { IsPrefix worker.view result.view }
     ensures leads { (nodes : List Node) → LeadTo nodes worker.links.items → LeadTo nodes result.links.items }
 {
@@ -376,23 +383,9 @@ pub(crate) fn start_worker<
     requires leads { LeadTo C.nodes (A.links worker) }
 {
     let rt = *rt;
-    let Ok(routes) = Routes::new(alloc) else {
-        return Err(DeviceFailed);
-    };
-    let telemetry = telemetry.share()?;
-    let gate = Arc::try_clone(gate)?;
-    let nodes = Arc::try_clone(nodes)?;
+    let service = Service::new(alloc, telemetry, gate, nodes)?;
     let source = source.share()?;
-    let job = move || {
-        let worker = worker.into_worker();
-        let service = Service {
-            routes: &routes,
-            telemetry: &telemetry,
-            gate: &gate,
-            nodes: &nodes,
-        };
-        drop(work(&rt, alloc, &service, worker, &source));
-    };
+    let job = move || drop(work(&rt, alloc, &service, worker.into_worker(), &source));
     match thread::spawn(&rt, job) {
         Ok(thread) => {
             drop(thread);

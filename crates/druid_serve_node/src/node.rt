@@ -10,7 +10,7 @@ ghost use Rattle.druid_serve_node.specs.Files.{HoldsSegments, IsStarted};
 
 use crate::known::Known;
 use crate::latest::{Begun, Latest};
-use crate::loader::{Loader, Loading, start_loader};
+use crate::loader::{Loader, Loading, Tried, start_loader};
 use crate::owner::{Owner, own_folder};
 use crate::reporter::Reporter;
 use crate::segment_files::{keep_segment_files, load_named};
@@ -205,17 +205,83 @@ struct ReadyNode<I: Incarnation> {
     reporter: Reporter,
 }
 
+// What the loading thread of a node works with.
+fn loader_of<I: Incarnation, J: Begun>(
+    alloc: Global,
+    config: &NodeConfig,
+    node: &Arc<DataNode<I>, Global>,
+    latest: &Arc<Latest<J>, Global>,
+    end: &Arc<Handover<Tried>, Global>,
+    watch: Watch,
+    reporter: Reporter,
+) -> Result<Loader<I, J>, StartFault>
+    ensures { IfOk result (λ loader. loader.watch ≡ watch) }
+{
+    Ok(Loader {
+        node: Arc::try_clone(node)?,
+        latest: Arc::try_clone(latest)?,
+        path: String::from_str(alloc, config.folder())?,
+        names: copies_of(alloc, config.loads())?,
+        rest: config.watch(),
+        watch,
+        reporter,
+        end: Arc::try_clone(end)?,
+    })
+}
+
+// Starts the thread that loads what comes once the node listens, and gives what tells when the files were tried that come first.
+fn start_loading<
+    R: Files<File = File> + AllocGlobal + Host + Copy + Send + Sync + 'static,
+    L: Device + Send + Sync + 'static,
+    I: Incarnation + Send + Sync + 'static,
+    J: Begun + Send + Sync + 'static,
+>(
+    rt: &R,
+    alloc: Global,
+    config: &NodeConfig,
+    node: &Arc<DataNode<I>, Global>,
+    latest: &Arc<Latest<J>, Global>,
+    watch: Watch,
+    reporter: Reporter,
+) -> Result<Arc<Handover<Tried>, Global>, StartFault>
+where
+    R::Dir: Send,
+    requires begun { watch.seen ≡ J.mark }
+    requires own { J.mark.incarnation ≡ I.number }
+{
+    let end = Arc::new(alloc, Handover::new())?;
+    let loader = loader_of(alloc, config, node, latest, &end, watch, reporter)?;
+    start_loader::<R, L, I, J>(*rt, alloc, loader)?;
+    Ok(end)
+}
+
+// Starts a node's front, where it has one, and the workers that answer.
+fn start_answering<
+    R: Host + Copy + Send + Sync + 'static,
+    I: Incarnation + Send + Sync + 'static,
+    J: Begun + Send + Sync + 'static,
+>(
+    rt: &R,
+    alloc: Global,
+    config: &NodeConfig,
+    telemetry: &Telemetry,
+    node: &Arc<DataNode<I>, Global>,
+    latest: &Arc<Latest<J>, Global>,
+    listener: Arc<TcpListener, Global>,
+) -> Result<(), StartFault> {
+    // Nobody waits for what a node answered.
+    let gate = Arc::new(alloc, Gate::new())?;
+    let source = Source::open(rt, alloc, config.front(), listener, &gate)?;
+    for _ in 0..config.workers() {
+        start_worker(rt, alloc, node, latest, telemetry, &source)?;
+    }
+    Ok(())
+}
+
 // Starts the threads of a node that is ready: the one that loads what comes later, its front, where it has one, and its workers,
 // which answer from the mark on that the node has now.
 fn start_threads<
-    R: Files<File = File>
-        + Net<Listener = TcpListener, Stream = TcpStream>
-        + AllocGlobal
-        + Host
-        + Copy
-        + Send
-        + Sync
-        + 'static,
+    R: Files<File = File> + AllocGlobal + Host + Copy + Send + Sync + 'static,
     L: Device + Send + Sync + 'static,
     I: Incarnation + Send + Sync + 'static,
     J: Begun + Send + Sync + 'static,
@@ -239,37 +305,25 @@ where
         reporter,
     } = ready;
     let latest: Arc<Latest<J>, Global> = Arc::new(alloc, Latest::new(watch.seen()))?;
-    let end = Arc::new(alloc, Handover::new())?;
-    let loader = Loader {
-        node: Arc::try_clone(&node)?,
-        latest: Arc::try_clone(&latest)?,
-        path: String::from_str(alloc, config.folder())?,
-        names: copies_of(alloc, config.loads())?,
-        rest: config.watch(),
-        watch,
-        reporter,
-        end: Arc::try_clone(&end)?,
-    };
-    start_loader::<R, L, I, J>(*rt, alloc, loader)?;
-    // Nobody waits for what a node answered.
-    let gate = Arc::new(alloc, Gate::new())?;
-    let source = Source::open(rt, alloc, config.front(), listener, &gate)?;
-    for _ in 0..config.workers() {
-        start_worker(rt, alloc, &node, &latest, telemetry, &source)?;
-    }
+    let end = start_loading::<R, L, I, J>(rt, alloc, config, &node, &latest, watch, reporter)?;
+    start_answering(rt, alloc, config, telemetry, &node, &latest, listener)?;
     Ok(Loading::new(end, owner))
 }
 
-// What a node tells of itself: to its log, and to the meter that its status address shows.
+// What a node tells of itself: to its log, at its status address, and as files come and go.
 fn reporting_of(
     alloc: Global,
     config: &NodeConfig,
     log: &Arc<Log, Global>,
-) -> Result<(Telemetry, Arc<NodeMeter, Global>, Reporter), StartFault> {
+) -> Result<(Telemetry, NodeStatus, Reporter), StartFault> {
     let telemetry = Telemetry::new(alloc, config.name().as_str(), log)?;
     let meter = Arc::new(alloc, NodeMeter::new(alloc)?)?;
     let reporter = Reporter::new(alloc, telemetry.share()?, &meter)?;
-    Ok((telemetry, meter, reporter))
+    let status = NodeStatus {
+        telemetry: telemetry.share()?,
+        meter,
+    };
+    Ok((telemetry, status, reporter))
 }
 
 // What is held already, or a listener that begins now.
@@ -366,29 +420,23 @@ where
     requires own { state.history.incarnation ≡ I.number }
     requires has { F.is_honest folder.old → F.content folder.old number_file ≡ Some (number_text state.history.incarnation) }
 {
-    let (telemetry, meter, reporter) = reporting_of(alloc, config, log)?;
+    let (telemetry, status, reporter) = reporting_of(alloc, config, log)?;
     let ready: ReadyNode<I> = ready_node(rt, alloc, config, reporter, folder, state, held)?;
-    start_status_of(rt, alloc, config, telemetry.share()?, meter)?;
+    start_status_of(rt, alloc, config, status)?;
     start_threads::<R, L, I, Brand>(rt, alloc, config, &telemetry, ready)
 }
 
 // Starts the thread that answers at a node's status address, where it has one.
 fn start_status_of<
     R: Net<Listener = TcpListener, Stream = TcpStream> + Host + Copy + Send + Sync + 'static,
->(
-    rt: &R,
-    alloc: Global,
-    config: &NodeConfig,
-    telemetry: Telemetry,
-    meter: Arc<NodeMeter, Global>,
-) -> Result<(), StartFault> {
+>(rt: &R, alloc: Global, config: &NodeConfig, status: NodeStatus) -> Result<(), StartFault> {
     let Some(address) = config.status() else {
         return Ok(());
     };
     let Ok(listener) = listen(rt, address) else {
         return Err(StartFault::device(Cause::Status));
     };
-    start_status(rt, alloc, listener, NodeStatus { telemetry, meter })?;
+    start_status(rt, alloc, listener, status)?;
     Ok(())
 }
 
