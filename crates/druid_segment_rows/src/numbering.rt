@@ -128,15 +128,32 @@ impl Numbering {
         ensures bounded { All (λ code. code ≤ length (texts_of result.items)) codes.new }
     {
         let Numbering {
+            alloc,
             entries,
             mut values,
             mut ranks,
             ..
         } = self;
         put_in_order(entries, &mut values, &mut ranks, codes);
-        values.shrink_to_fit();
-        values
+        pack_texts(alloc, values)
     }
+}
+
+// Copies of the texts, made one after another: so they lie in memory in their order, and whoever goes through them finds the next
+// one near. Where memory runs out they stay where they are.
+fn pack_texts(alloc: Global, texts: Vec<String>) -> Vec<String>
+    ensures { texts_of result.items ≡ texts_of texts.items }
+{
+    let Ok(mut copies) = Vec::with_capacity(alloc, texts.len()) else {
+        return texts;
+    };
+    for text in &texts {
+        let Ok(copy) = String::from_str(alloc, text.as_str()) else {
+            return texts;
+        };
+        copies.push_reserved(copy);
+    }
+    copies
 }
 
 fn mark_one(code: u32, ranks: &mut [u32])
