@@ -106,19 +106,19 @@ def tell(total, spans, minutes):
     for work, ticks in total.items():
         by_phase[work[:2]] += ticks
         phases[work.phase] += ticks
-    print(f"\n{'crate':<24}{'phase':<12}{'processor min':>14}{'from':>7}{'to':>7}")
+    print(f"\n{'crate':<26}{'phase':<12}{'processor min':>14}{'from':>7}{'to':>7}")
     for (crate, phase), ticks in by_phase.most_common():
         if ticks > 5 * HZ:
             first, end = spans[crate, phase]
-            print(f'{crate:<24}{phase:<12}{ticks / HZ / 60:14.1f}{first:7.0f}{end:7.0f}')
+            print(f'{crate:<26}{phase:<12}{ticks / HZ / 60:14.1f}{first:7.0f}{end:7.0f}')
     for phase, ticks in phases.most_common():
-        print(f"{'all':<24}{phase:<12}{ticks / HZ / 60:14.1f}")
-    print(f"{'all':<36}{sum(total.values()) / HZ / 60:14.1f}{0:7.0f}{minutes:7.0f}")
+        print(f"{'all':<26}{phase:<12}{ticks / HZ / 60:14.1f}")
+    print(f"{'all':<38}{sum(total.values()) / HZ / 60:14.1f}{0:7.0f}{minutes:7.0f}")
     edits = sorted(((work.crate, -ticks, work.edit) for work, ticks in total.items() if work.edit))
     if edits:
-        print(f"\n{'crate':<24}{'edit':<44}{'processor s':>12}")
+        print(f"\n{'crate':<26}{'edit':<44}{'processor s':>12}")
     for crate, ticks, edit in edits:
-        print(f'{crate:<24}{edit:<44}{-ticks / HZ:12.0f}')
+        print(f'{crate:<26}{edit:<44}{-ticks / HZ:12.0f}')
     print()
 
 
