@@ -2,7 +2,7 @@
 use crate::kinds::KINDS;
 use crate::segfile::{bytes_of, extend, letters, read, wide};
 use druid_segment_file::{FileFault, write_columns, write_segment};
-use druid_segment_rows::Segment;
+use druid_segment_rows::{Segment, Texts};
 use std::alloc::Global;
 use std::io::{Error, ErrorKind, Result as IoResult, Write};
 use std::process::Abort;
@@ -75,12 +75,16 @@ fn both_layouts(rt: HostRuntime) {
     }
 }
 
-fn are_texts(found: &[String], texts: &[&str]) -> bool {
-    found.len() == texts.len()
-        && found
-            .iter()
-            .zip(texts)
-            .all(|(found, text)| found.as_str() == *text)
+fn are_texts(found: &Texts, texts: &[&str]) -> bool {
+    if found.len() != texts.len() {
+        return false;
+    }
+    for place in 0..texts.len() {
+        if found.get(place) != texts[place] {
+            return false;
+        }
+    }
+    true
 }
 
 // Whether a segment has these texts and codes.

@@ -306,7 +306,7 @@ fn three_rows(rt: &impl Abort, alloc: Global) -> Segment {
     push(&mut builder, &row(rt, alloc, "7", "-", "5")).expect(rt, "a first row");
     push_values(rt, &mut builder, 0, Some(""), Some(i64::MIN)).expect(rt, "a second row");
     push_values(rt, &mut builder, 9, Some("\u{e9}t\u{e9}"), None).expect(rt, "a third row");
-    builder.finish()
+    builder.finish().expect(rt, "memory")
 }
 
 // The instants, the texts and the numbers of the three.

@@ -1,12 +1,11 @@
 -- Codes of a dictionary are in the order of their values, so equal codes are equal values.
-use Rattle.std.proofs.Common.{◌≡◌, ◌∙◌, ℕ, zero, suc, ◌+◌, ◌<◌, ◌≤◌, List, [], ◌∷◌, length, get_or, false, Some, None, refl, sym, ap, subst, arith, String, Global, string_bytes, ◌⊎◌, inl, inr}
+use Rattle.std.proofs.Common.{◌≡◌, ◌∙◌, ℕ, zero, suc, ◌+◌, ◌<◌, ◌≤◌, List, [], ◌∷◌, length, get_or, Some, None, refl, sym, ap, subst, arith}
 use Rattle.std.specs.Prelude.{◌==◌, slice_get, slice_index_or}
 use Rattle.std.specs.List.{AllByRecursion}
-use Rattle.std.specs.List.Sorted.{IsStrictlySortedBy, IsNonDecreasingBy, IsPartitionPoint}
-use Rattle.std.specs.Ordering.{nat_cmp, is_eq, ordering_index, ordering_reverse}
-use Rattle.std.specs.declared.cmp.Ordering.{Ordering}
+use Rattle.std.specs.List.Sorted.{IsStrictlySortedBy}
+use Rattle.std.specs.Ordering.{nat_cmp, is_eq, ordering_reverse}
 use Rattle.std.specs.declared.cmp.Ordering.TheVariants.{Less, Equal, Greater}
-use Rattle.std.specs.Cmp.{IsTotalOrder, unsigned_ties}
+use Rattle.std.specs.Cmp.{unsigned_ties}
 use Rattle.std.specs.Cmp.Lexicographic.{slice_cmp}
 use Rattle.std.proofs.lemmas.Cmp.{nat_list_cmp_total, tied_itself, ranked, by_ranked}
 use Rattle.std.proofs.lemmas.Map.Keys.{sorted_head, sorted_tail}
@@ -16,7 +15,7 @@ use Rattle.std.proofs.lemmas.List.{get_or-map, length-map}
 use Rattle.std.proofs.lemmas.List.Elements.{All-get_or}
 use Rattle.druid_base.proofs.OrderLemmas.{nat_cmp-lt, nat_cmp-gt}
 use Rattle.druid_filter.specs.Filters.{same_value}
-use Rattle.druid_segment_rows.specs.Rows.{Row, no_row, texts_of}
+use Rattle.druid_segment_rows.specs.Rows.{Row, no_row}
 use Rattle.druid_segment_rows.specs.Segment.{Segment, row_at}
 use Rattle.druid_segment_rows.specs.Columns.{column, value_at, IsDictionary, AreCodes}
 use Rattle.druid_partial.specs.Groups.{value_cmp}
@@ -71,68 +70,47 @@ value_same_code ts a b s p q =
 
 -- ---- what a search by halving finds
 
-index_rises : (a b x : List ℕ) → slice_cmp nat_cmp a b ≡ Less → ordering_index (slice_cmp nat_cmp a x) ≤ ordering_index (slice_cmp nat_cmp b x)
-index_rises a b x less = by_order (slice_cmp nat_cmp a x) refl
-  where
-    o : IsTotalOrder (slice_cmp nat_cmp)
-    o = nat_list_cmp_total
+-- the texts before a place are below that one
+abbrev pub AreBelow : List (List ℕ) → List ℕ → ℕ → Type 0
+AreBelow texts x low = (k : ℕ) → k < low → slice_cmp nat_cmp (get_or texts k []) x ≡ Less
 
-    last : slice_cmp nat_cmp x b ≡ Less → slice_cmp nat_cmp b x ≡ Greater
-    last h = o.antisymm b x ∙ ap ordering_reverse h
+-- those from a place on are above it
+abbrev pub AreAbove : List (List ℕ) → List ℕ → ℕ → Type 0
+AreAbove texts x high = (k : ℕ) → high ≤ k → k < length texts → slice_cmp nat_cmp (get_or texts k []) x ≡ Greater
 
-    by_order : (r : Ordering) → slice_cmp nat_cmp a x ≡ r → ordering_index r ≤ ordering_index (slice_cmp nat_cmp b x)
-    by_order Less e = omega arith
-    by_order Equal e = let g = last (sym (o.congr a x b e) ∙ less) in rw g (omega arith)
-    by_order Greater e = let g = last (o.trans x a b (o.antisymm x a ∙ ap ordering_reverse e) less) in rw g (omega arith)
+pub below_to : (texts : List (List ℕ)) (x : List ℕ) (k : ℕ) → IsStrictlySortedBy (slice_cmp nat_cmp) texts → k < length texts → slice_cmp nat_cmp (get_or texts k []) x ≡ Less → AreBelow texts x (k + 1)
+below_to texts x k s h less m lt =
+    by_ranked (m < k) (m ≡ k) (k < m) (nat_cmp m k) (ranked m k (nat_cmp m k) refl)
+    (λ o l. nat_list_cmp_total.trans (get_or texts m []) (get_or texts k []) x (less_of texts m k [] s l h) less)
+    (λ o e. subst (λ n. slice_cmp nat_cmp (get_or texts n []) x ≡ Less) (sym e) less)
+    (λ o g. absurd (omega (arith, lt, g)))
 
-pub searchable : (texts : List (String Global)) (x : String Global) → IsStrictlySortedBy (slice_cmp nat_cmp) (texts_of texts) → IsNonDecreasingBy (λ y. ordering_index (slice_cmp nat_cmp (string_bytes y) (string_bytes x))) texts
-searchable texts x s i j d h k = by_cases (i_or i j h)
-  where
-    i_or : (i j : ℕ) → i ≤ j → (i < j) ⊎ (i ≡ j)
-    i_or i j h = by_ranked (i < j) (i ≡ j) (j < i) (nat_cmp i j) (ranked i j (nat_cmp i j) refl) (λ o l. inl l) (λ o e. inr e) (λ o g. absurd (omega (arith, h, g)))
-
-    at : (m : ℕ) → m < length texts → get_or (texts_of texts) m (string_bytes d) ≡ string_bytes (get_or texts m d)
-    at m l = get_or-map string_bytes texts m d (string_bytes d) l
-
-    long : length (texts_of texts) ≡ length texts
-    long = length-map texts string_bytes
-
-    by_cases : (i < j) ⊎ (i ≡ j) → ordering_index (slice_cmp nat_cmp (string_bytes (get_or texts i d)) (string_bytes x)) ≤ ordering_index (slice_cmp nat_cmp (string_bytes (get_or texts j d)) (string_bytes x))
-    by_cases (inl l) =
-        let less = less_of (texts_of texts) i j (string_bytes d) s l (let e = long in omega (arith, e, k)) in
-        index_rises (string_bytes (get_or texts i d)) (string_bytes (get_or texts j d)) (string_bytes x)
-        (ap (λ t. slice_cmp nat_cmp t (string_bytes (get_or texts j d))) (sym (at i (omega (arith, l, k)))) ∙ ap (slice_cmp nat_cmp (get_or (texts_of texts) i (string_bytes d))) (sym (at j k)) ∙ less)
-    by_cases (inr e) = rw e (omega arith)
+pub above_from : (texts : List (List ℕ)) (x : List ℕ) (k : ℕ) → IsStrictlySortedBy (slice_cmp nat_cmp) texts → slice_cmp nat_cmp (get_or texts k []) x ≡ Greater → AreAbove texts x k
+above_from texts x k s greater m le h =
+    by_ranked (k < m) (k ≡ m) (m < k) (nat_cmp k m) (ranked k m (nat_cmp k m) refl)
+    (λ o l. nat_list_cmp_total.antisymm (get_or texts m []) x
+    ∙ ap ordering_reverse (nat_list_cmp_total.trans x (get_or texts k []) (get_or texts m []) (nat_list_cmp_total.antisymm x (get_or texts k []) ∙ ap ordering_reverse greater) (less_of texts k m [] s l h)))
+    (λ o e. subst (λ n. slice_cmp nat_cmp (get_or texts n []) x ≡ Greater) e greater)
+    (λ o g. absurd (omega (arith, le, g)))
 
 -- the text that was found
-pub code_found : (texts : List (String Global)) (x : String Global) (k : ℕ) → IsStrictlySortedBy (slice_cmp nat_cmp) (texts_of texts) → k < length texts → slice_cmp nat_cmp (string_bytes (get_or texts k x)) (string_bytes x) ≡ Equal → IsCodeOf (texts_of texts) (Some (string_bytes x)) (Some (k + 1))
+pub code_found : (texts : List (List ℕ)) (x : List ℕ) (k : ℕ) → IsStrictlySortedBy (slice_cmp nat_cmp) texts → k < length texts → slice_cmp nat_cmp (get_or texts k []) x ≡ Equal → IsCodeOf texts (Some x) (Some (k + 1))
 code_found texts x k s h e code p =
-    let long : length (texts_of texts) ≡ length texts = length-map texts string_bytes in
-    let there : value_at (texts_of texts) (suc k) ≡ Some (string_bytes x) =
-    slice_get-get_or (texts_of texts) k (string_bytes x) (omega (arith, h, long))
-    ∙ ap (λ t. Some t) (get_or-map string_bytes texts k x (string_bytes x) h ∙ exact_bytes _ _ e) in
+    let there : value_at texts (suc k) ≡ Some x = slice_get-get_or texts k [] h ∙ ap (λ t. Some t) (exact_bytes _ _ e) in
     let next : suc k ≡ k + 1 = omega arith in
-    ap (same_value (value_at (texts_of texts) code)) (sym there)
-    ∙ value_same_code (texts_of texts) code (suc k) s p (omega (arith, h, long)) ∙ ap (λ n. code == n) next
+    ap (same_value (value_at texts code)) (sym there)
+    ∙ value_same_code texts code (suc k) s p (omega (arith, h)) ∙ ap (λ n. code == n) next
 
 -- a text that is not there
-pub code_absent : (texts : List (String Global)) (x : String Global) (i : ℕ) → IsPartitionPoint (λ y. slice_cmp nat_cmp (string_bytes y) (string_bytes x) ≡ Less) (λ y. slice_cmp nat_cmp (string_bytes y) (string_bytes x) ≡ Greater) texts i → IsCodeOf (texts_of texts) (Some (string_bytes x)) None
-code_absent texts x i part zero p = refl
-code_absent texts x i part (suc k) p =
-    let long : length (texts_of texts) ≡ length texts = length-map texts string_bytes in
-    let h : k < length texts = omega (arith, p, long) in
-    let value : value_at (texts_of texts) (suc k) ≡ Some (string_bytes (get_or texts k x)) =
-    slice_get-get_or (texts_of texts) k (string_bytes x) (omega (arith, h, long))
-    ∙ ap (λ t. Some t) (get_or-map string_bytes texts k x (string_bytes x) h) in
-    ap (λ v. same_value v (Some (string_bytes x))) value ∙ sym (value_tie (Some (string_bytes (get_or texts k x))) (Some (string_bytes x)))
-    ∙ by_side k h (k_or k i)
-  where
-    k_or : (k i : ℕ) → (k < i) ⊎ (i ≤ k)
-    k_or k i = by_ranked (k < i) (k ≡ i) (i < k) (nat_cmp k i) (ranked k i (nat_cmp k i) refl) (λ o l. inl l) (λ o e. inr (omega (arith, e))) (λ o g. inr (omega (arith, g)))
-
-    by_side : (k : ℕ) → k < length texts → (k < i) ⊎ (i ≤ k) → is_eq (slice_cmp nat_cmp (string_bytes (get_or texts k x)) (string_bytes x)) ≡ false
-    by_side k h (inl l) = ap is_eq (part.0 k x (omega arith) l)
-    by_side k h (inr g) = ap is_eq (part.1 k x g h)
+pub code_absent : (texts : List (List ℕ)) (x : List ℕ) (low high : ℕ) → high ≤ low → AreBelow texts x low → AreAbove texts x high → IsCodeOf texts (Some x) None
+code_absent texts x low high met below above zero p = refl
+code_absent texts x low high met below above (suc k) p =
+    let h : k < length texts = omega (arith, p) in
+    ap (λ v. same_value v (Some x)) (slice_get-get_or texts k [] h) ∙ sym (value_tie (Some (get_or texts k [])) (Some x))
+    ∙ by_ranked (k < low) (k ≡ low) (low < k) (nat_cmp k low) (ranked k low (nat_cmp k low) refl)
+    (λ o l. ap is_eq (below k l))
+    (λ o e. ap is_eq (above k (omega (arith, met, e)) h))
+    (λ o g. ap is_eq (above k (omega (arith, met, g)) h))
 
 -- ---- a dimension's codes
 

@@ -6,7 +6,7 @@ ghost use Rattle.std.specs.Ordering.{nat_cmp};
 ghost use Rattle.std.specs.Cmp.Lexicographic.{slice_cmp};
 ghost use Rattle.druid_filter.specs.Filters.{same_value, passes, all_pass, any_passes, says, each_says};
 ghost use Rattle.druid_segment_rows.specs.Columns.{value_at};
-ghost use Rattle.druid_segment_rows.specs.Rows.{texts_of, nullable_texts_of};
+ghost use Rattle.druid_segment_rows.specs.Rows.{nullable_texts_of};
 ghost use Rattle.druid_partial_scan.specs.Places.{place_in};
 ghost use Rattle.druid_partial_scan.specs.Rows.{passes_if};
 ghost use Rattle.druid_partial_scan.specs.CodeFilters.{code_is, code_among, holds, all_hold, any_holds, judge_if, value_of, IsCodeOf};
@@ -14,8 +14,9 @@ ghost use Rattle.druid_partial_scan.specs.CodeFilters.{code_is, code_among, hold
 use crate::located::place_of;
 use druid_filter::Filter;
 use druid_query::Query;
-use druid_segment_rows::Segment;
+use druid_segment_rows::{Segment, Texts};
 use std::alloc::{AllocError, Global};
+use std::cmp::Ordering;
 
 // A filter whose names and values are looked up in a segment.
 #[derive(Drop)]
@@ -35,18 +36,25 @@ pub(crate) enum CodeFilter<'a> {
 }
 
 // The code of a value, if these texts have it: 0 for null, and k for the k-th.
-fn code_of(texts: &[String], wanted: &Option<String>) -> Option<usize>
-    ensures code { IsStrictlySortedBy (slice_cmp nat_cmp) (texts_of texts.now)
-        → IsCodeOf (texts_of texts.now) (option_map string_bytes wanted.now) result }
+fn code_of(texts: &Texts, wanted: &Option<String>) -> Option<usize>
+    ensures code { IsStrictlySortedBy (slice_cmp nat_cmp) texts.now
+        → IsCodeOf texts.now (option_map string_bytes wanted.now) result }
     ensures inside { IfSome result (λ code. code ≤ length texts.now) }
 {
     let Some(text) = wanted else {
         return Some(0);
     };
-    match texts.binary_search(text) {
-        Ok(place) => Some(place + 1),
-        Err(_) => None,
+    let mut low = 0;
+    let mut high = texts.len();
+    while low < high {
+        let middle = low + (high - low) / 2;
+        match texts.get(middle).cmp(text.as_str()) {
+            Ordering::Less => low = middle + 1,
+            Ordering::Equal => return Some(middle + 1),
+            Ordering::Greater => high = middle,
+        }
     }
+    None
 }
 
 // Whether null is one of these values.
@@ -64,11 +72,11 @@ fn has_null(wanted: &[Option<String>]) -> bool
 // A mark for each code of these texts: whether its value is among those.
 fn marks_of(
     alloc: Global,
-    texts: &[String],
+    texts: &Texts,
     wanted: &[Option<String>],
 ) -> Result<Vec<bool>, AllocError>
-    ensures { IfOk result (λ marks. IsStrictlySortedBy (slice_cmp nat_cmp) (texts_of texts.now) → (code : ℕ) → code ≤ length (texts_of texts.now)
-        → slice_index_or marks.items code false ≡ list_any (same_value (value_at (texts_of texts.now) code)) (nullable_texts_of wanted.now)) }
+    ensures { IfOk result (λ marks. IsStrictlySortedBy (slice_cmp nat_cmp) texts.now → (code : ℕ) → code ≤ length texts.now
+        → slice_index_or marks.items code false ≡ list_any (same_value (value_at texts.now code)) (nullable_texts_of wanted.now)) }
 {
     let mut marks = vec![in alloc; false; texts.len() + 1]?;
     for value in wanted {

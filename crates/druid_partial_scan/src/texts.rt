@@ -1,14 +1,13 @@
 //! The texts of a query's dimensions in several segments, and codes by them.
 ghost use Rattle.std.specs.Prelude.{◌≡◌, ◌<◌, ◌≤◌, ℕ, Some, map, length, slice_get, All, IfOk, IfSome, IsTrue};
 ghost use Rattle.druid_segment_rows.specs.Columns.{AreCodes};
-ghost use Rattle.druid_segment_rows.specs.Rows.{texts_of};
 ghost use Rattle.druid_partial_scan.specs.Places.{IsPlace};
 ghost use Rattle.druid_partial_scan.specs.Slices.{borrowed_texts, texts_in, values_in, room_over, IsRising, IsCoded, AreCoded};
 
 use crate::code_filter::dimension_of;
 use crate::column::Column;
 use druid_query::Query;
-use druid_segment_rows::Segment;
+use druid_segment_rows::{Segment, Texts};
 use druid_time::Interval;
 use std::alloc::{AllocError, Global};
 use std::cmp::Ordering;
@@ -59,11 +58,13 @@ fn own_texts<'a>(
     segment: &'a Segment,
     name: &str,
 ) -> Result<Vec<&'a str>, AllocError> {
-    let mut texts = Vec::new(alloc);
-    if let Some(place) = dimension_of(segment, name) {
-        for text in segment.values(place) {
-            texts.push(text.as_str())?;
-        }
+    let Some(place) = dimension_of(segment, name) else {
+        return Ok(Vec::new(alloc));
+    };
+    let values = segment.values(place);
+    let mut texts = Vec::with_capacity(alloc, values.len())?;
+    for place in 0..values.len() {
+        texts.push(values.get(place))?;
     }
     Ok(texts)
 }
@@ -200,15 +201,15 @@ fn is_at(texts: &[&str], place: usize, text: &str) -> bool
 
 // For each code of a segment's own texts the code of the same text among those of all. None where
 // one is not there.
-fn table_of(alloc: Global, texts: &[&str], own: &[String]) -> Result<Option<Vec<usize>>, AllocError>
+fn table_of(alloc: Global, texts: &[&str], own: &Texts) -> Result<Option<Vec<usize>>, AllocError>
     ensures { IfOk result (λ found. IfSome found (λ table.
-        AreCodes (borrowed_texts texts.now) (values_in (texts_of own.now)) table.items)) }
+        AreCodes (borrowed_texts texts.now) (values_in own.now) table.items)) }
 {
     let mut table = Vec::with_capacity(alloc, own.len() + 1)?;
     table.push(0)?;
     let mut first = 0;
-    for text in own {
-        let Some(place) = found_from(texts, first, text.as_str()) else {
+    for code in 0..own.len() {
+        let Some(place) = found_from(texts, first, own.get(code)) else {
             return Ok(None);
         };
         table.push(place + 1)?;

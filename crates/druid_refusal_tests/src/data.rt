@@ -11,7 +11,7 @@ use druid_partial_scan::{partial_of, partial_of_slices, partial_on_threads, part
 use druid_partial_text::{partial_text, result_text, shortfall_text};
 use druid_query::Query;
 use druid_segment_descriptor::Descriptor;
-use druid_segment_rows::{Numbers, Row, RowFault, Schema, Segment, SegmentBuilder};
+use druid_segment_rows::{Numbers, Row, RowFault, Schema, Segment, SegmentBuilder, Texts};
 use druid_time::Instant;
 use http::Method;
 use std::alloc::{AllocError, Global};
@@ -123,7 +123,7 @@ fn builders(rt: &impl Abort, alloc: Global) {
         rt,
         "SegmentBuilder::new",
         match made {
-            Ok(builder) => builder.finish().is_empty(),
+            Ok(builder) => builder.finish().expect(rt, "memory").is_empty(),
             Err(fault) => fault == RowFault::Memory,
         },
     );
@@ -131,11 +131,40 @@ fn builders(rt: &impl Abort, alloc: Global) {
     let mut builder = SegmentBuilder::new(alloc, second, schemas).expect(rt, "a builder");
     pushes(rt, alloc, &mut builder, "a");
     pushes(rt, alloc, &mut builder, "b");
+    begin(rt, alloc);
+    let finished = end(rt, alloc, builder.finish());
     assert_call(
         rt,
-        "then SegmentBuilder::finish",
-        builder.finish().len() == 4,
+        "SegmentBuilder::finish",
+        match finished {
+            Ok(segment) => segment.len() == 4,
+            Err(_) => true,
+        },
     );
+}
+
+fn push_text(rt: &impl Abort, alloc: Global, texts: &mut Texts, text: &str) {
+    begin(rt, alloc);
+    let reported = end(rt, alloc, texts.push(text));
+    assert_call(
+        rt,
+        "Texts::push",
+        match reported {
+            Ok(()) => true,
+            Err(_) => texts.push(text).is_ok(),
+        },
+    );
+}
+
+fn texts(rt: &impl Abort, alloc: Global) {
+    let mut texts = Texts::new(alloc);
+    push_text(rt, alloc, &mut texts, "a");
+    push_text(rt, alloc, &mut texts, "");
+    push_text(rt, alloc, &mut texts, "caf\u{e9}");
+    if texts.len() == 3 {
+        let found = (texts.get(0), texts.get(1), texts.get(2));
+        assert_call(rt, "then Texts::get", found == ("a", "", "caf\u{e9}"));
+    }
 }
 
 fn push_number(rt: &impl Abort, alloc: Global, numbers: &mut Numbers, value: Option<i64>) {

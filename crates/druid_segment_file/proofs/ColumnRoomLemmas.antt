@@ -1,13 +1,12 @@
 -- How long the spelling of a segment by columns is, part by part.
-use Rattle.std.proofs.Common.{◌≡◌, ℕ, ℤ, ◌+◌, ◌-◌, ◌*◌, ◌<◌, ◌≤◌, List, [], ◌∷◌, ◌++◌, length, take, get_or, Option, Some, None, SomeIff, String, string_bytes, ap, subst, sym, refl, ◌∙◌, arith}
-use Rattle.std.specs.Global.{Global}
+use Rattle.std.proofs.Common.{◌≡◌, ℕ, ℤ, ◌+◌, ◌-◌, ◌*◌, ◌<◌, ◌≤◌, List, [], ◌∷◌, ◌++◌, length, take, get_or, Option, Some, None, SomeIff, ap, subst, sym, refl, ◌∙◌, arith}
 use Rattle.std.specs.List.{flat_map, range_with_len, sum_by}
 use Rattle.std.proofs.lemmas.List.Folds.{length-flat_map-take}
 use Rattle.std.proofs.lemmas.List.FromFn.{get_or-range_with_len}
 use Rattle.std.specs.Int.{w32, to_be_bytes}
 use Rattle.std.proofs.lemmas.List.{length-append, length-map, flat_map_more, take_more}
 use Rattle.std.proofs.lemmas.List.Sums.{sum_by-cons}
-use Rattle.druid_segment_rows.specs.Rows.{Row, texts_of}
+use Rattle.druid_segment_rows.specs.Rows.{Row}
 use Rattle.druid_segment_rows.specs.Columns.{column, IsDictionary}
 use Rattle.druid_segment_rows.specs.Segment.{Segment, number_value_length, head_length}
 use Rattle.druid_segment_rows.proofs.ColumnLemmas.{IsDictionary_unique, length_codes}
@@ -17,13 +16,13 @@ use Rattle.druid_segment_file.specs.Heading.{heading_after}
 use Rattle.druid_segment_file.proofs.LengthLemmas.{length_five, length_descriptor, length_names}
 
 -- the length of a text of a dictionary
-abbrev pub value_length : String Global → ℕ
-value_length text = 2 + length (string_bytes text)
+abbrev pub value_length : List ℕ → ℕ
+value_length text = 2 + length text
 
-pub length_values : (texts : List (String Global)) → length (flat_map value (texts_of texts)) ≡ sum_by value_length texts
+pub length_values : (texts : List (List ℕ)) → length (flat_map value texts) ≡ sum_by value_length texts
 length_values [] = refl
 length_values (text ∷ texts) =
-    omega (arith, length-append (value (string_bytes text)) (flat_map value (texts_of texts)), sum_by-cons value_length text texts, length_values texts)
+    omega (arith, length-append (value text) (flat_map value texts), sum_by-cons value_length text texts, length_values texts)
 
 length_both : (number : Option ℤ) → length (mark number) + length (present number) ≡ number_value_length number
 length_both None = refl

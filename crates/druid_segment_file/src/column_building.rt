@@ -1,6 +1,5 @@
 //! Columns that were judged are read again, and kept.
 ghost use Rattle.std.specs.Prelude.{◌≡◌, ◌≤◌, List, ℤ, Option, map, Ok, IsOk, IfOk};
-ghost use Rattle.druid_segment_rows.specs.Rows.{texts_of};
 ghost use Rattle.druid_segment_rows.specs.Segment.{max_rows};
 ghost use Rattle.druid_segment_file.specs.ColumnSpelling.{Coded};
 ghost use Rattle.druid_segment_file.specs.Parts.{each_at, row_time_at};
@@ -11,7 +10,7 @@ ghost use Rattle.druid_segment_file.specs.Building.{Keeps, AreKept, present_valu
 use crate::FileFault;
 use crate::cursor::Cursor;
 use crate::rows::Shape;
-use druid_segment_rows::{Column, Numbers};
+use druid_segment_rows::{Column, Numbers, Texts};
 use druid_time::{Instant, Interval};
 use std::alloc::{AllocError, Global};
 
@@ -47,19 +46,19 @@ impl<'a> Cursor<'a> {
     }
 
     // That many texts of a dictionary.
-    fn value_texts(&mut self, alloc: Global, count: usize) -> Result<Vec<String>, AllocError>
+    fn value_texts(&mut self, alloc: Global, count: usize) -> Result<Texts, AllocError>
         requires { IsOk (value_texts_at self.old.short count None self.old.rest) }
-        ensures { IfOk result (λ values. Keeps self.old self.new (texts_of values.items)
+        ensures { IfOk result (λ values. Keeps self.old self.new values
             (value_texts_at self.old.short count None self.old.rest)) }
     {
-        let mut values = Vec::with_capacity(alloc, count)?;
+        let mut values = Texts::new(alloc);
         let mut last = None;
         for _ in 0..count {
             let text = match self.value_text(last) {
                 Ok(text) => text,
                 Err(_) => unreachable!(),
             };
-            values.push(String::from_str(alloc, text)?)?;
+            values.push(text)?;
             last = Some(text);
         }
         Ok(values)

@@ -1,29 +1,28 @@
 //! What room the spelling of a segment by columns leaves, found without writing it.
 ghost use Rattle.std.specs.Prelude.{◌≡◌, ◌↔◌, ◌+◌, ◌-◌, ◌*◌, ◌≤◌, List, length, IsTrue, SomeIff};
 ghost use Rattle.std.specs.List.{flat_map, range_with_len};
-ghost use Rattle.druid_segment_rows.specs.Rows.{texts_of};
 ghost use Rattle.druid_segment_rows.specs.Segment.{max_rows, max_text, number_value_length};
 ghost use Rattle.druid_segment_file.specs.ColumnSpelling.{Coded, AreCoded, value, dimension, metric, numbers_of, column_spelling};
 
-use druid_segment_rows::{Numbers, Segment};
+use druid_segment_rows::{Numbers, Segment, Texts};
 
 // The room that texts, each after its length, leave of this room. None where they are longer.
 #[tactic(auto, using(crate::proofs::ColumnRoomLemmas::length_values, std::proofs::lemmas::List::Sums::sum_by_more_le, std::proofs::lemmas::Grind::common_steps))]
-fn room_after_values(texts: &[String], mut room: usize) -> Option<usize>
-    ensures { SomeIff result (length (flat_map value (texts_of texts.now)) ≤ room)
-        (room - length (flat_map value (texts_of texts.now))) }
+fn room_after_values(texts: &Texts, mut room: usize) -> Option<usize>
+    ensures { SomeIff result (length (flat_map value texts.now) ≤ room)
+        (room - length (flat_map value texts.now)) }
 {
-    for text in texts {
-        room = room.checked_sub(2 + text.len())?;
+    for place in 0..texts.len() {
+        room = room.checked_sub(2 + texts.get(place).len())?;
     }
     Some(room)
 }
 
 // The room that a dictionary of these texts and a code for each row leave of this room. None where they are longer.
-fn room_after_dimension(texts: &[String], rows: usize, room: usize) -> Option<usize>
+fn room_after_dimension(texts: &Texts, rows: usize, room: usize) -> Option<usize>
     requires { rows ≤ max_rows }
-    ensures { SomeIff result (4 + 4 * rows + length (flat_map value (texts_of texts.now)) ≤ room)
-        (room - (4 + 4 * rows + length (flat_map value (texts_of texts.now)))) }
+    ensures { SomeIff result (4 + 4 * rows + length (flat_map value texts.now) ≤ room)
+        (room - (4 + 4 * rows + length (flat_map value texts.now))) }
 {
     room_after_values(texts, room.checked_sub(4 + 4 * rows)?)
 }

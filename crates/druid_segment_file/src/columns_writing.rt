@@ -4,7 +4,7 @@ ghost use Rattle.std.specs.Int.{w32, to_be_bytes};
 ghost use Rattle.std.specs.Io.KnownBytes.{Appends};
 ghost use Rattle.std.specs.List.{flat_map, range_with_len};
 ghost use Rattle.druid_stream.specs.Fronts.{AppendsFront};
-ghost use Rattle.druid_segment_rows.specs.Rows.{texts_of, max_value};
+ghost use Rattle.druid_segment_rows.specs.Rows.{max_value};
 ghost use Rattle.druid_segment_rows.specs.Segment.{max_text};
 ghost use Rattle.druid_segment_file.specs.Spelling.{instant};
 ghost use Rattle.druid_segment_file.specs.ColumnSpelling.{Coded, AreCoded, value, dimension, mark, present, metric, numbers_of, column_spelling, IsColumnSpelling};
@@ -15,7 +15,7 @@ use crate::FileFault;
 use crate::columns_room::is_short;
 use crate::spelling::{append_instant, column_heading};
 use crate::writing::{write_gathered, write_out};
-use druid_segment_rows::{Numbers, Segment};
+use druid_segment_rows::{Numbers, Segment, Texts};
 use druid_time::Instant;
 use std::alloc::{AllocError, Global};
 use std::io::Write;
@@ -38,12 +38,12 @@ fn append_value(out: &mut Vec<u8>, text: &str) -> Result<(), AllocError>
     out.extend_from_slice(text.as_bytes())
 }
 
-fn append_values(out: &mut Vec<u8>, texts: &[String]) -> Result<(), AllocError>
-    requires { All (λ text. length text ≤ max_value) (texts_of texts.now) }
-    ensures { OnOk result (out.new.items ≡ out.old.items ++ flat_map value (texts_of texts.now)) }
+fn append_values(out: &mut Vec<u8>, texts: &Texts) -> Result<(), AllocError>
+    requires { All (λ text. length text ≤ max_value) texts.now }
+    ensures { OnOk result (out.new.items ≡ out.old.items ++ flat_map value texts.now) }
 {
-    for text in texts {
-        append_value(out, text.as_str())?;
+    for place in 0..texts.len() {
+        append_value(out, texts.get(place))?;
     }
     Ok(())
 }
@@ -58,10 +58,10 @@ fn append_codes(out: &mut Vec<u8>, codes: &[u32]) -> Result<(), AllocError>
 }
 
 // The texts of a dictionary after their number, which is the last four bytes of a length, and a code for each row.
-fn append_dimension(out: &mut Vec<u8>, texts: &[String], codes: &[u32]) -> Result<(), AllocError>
-    requires { All (λ text. length text ≤ max_value) (texts_of texts.now) }
+fn append_dimension(out: &mut Vec<u8>, texts: &Texts, codes: &[u32]) -> Result<(), AllocError>
+    requires { All (λ text. length text ≤ max_value) texts.now }
     ensures { OnOk result (out.new.items
-        ≡ out.old.items ++ dimension (record { texts = texts_of texts.now; codes = codes.now })) }
+        ≡ out.old.items ++ dimension (record { texts = texts.now; codes = codes.now })) }
 {
     out.extend_from_slice(&texts.len().to_be_bytes()[4..])?;
     append_values(out, texts)?;

@@ -200,7 +200,7 @@ impl Judged<'_> {
         let shape = shape_of(&self.announcement, &self.fields);
         let descriptor = self.announcement.descriptor(alloc)?;
         match SegmentBuilder::new(alloc, descriptor, self.fields.schema(alloc)?) {
-            Ok(builder) => Ok(with_rows(builder, shape, self.count, self.rows, short)?.finish()),
+            Ok(builder) => with_rows(builder, shape, self.count, self.rows, short)?.finish(),
             Err(fault) => Err(want_of_memory(fault)),
         }
     }

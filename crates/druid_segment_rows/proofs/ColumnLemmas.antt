@@ -1,5 +1,5 @@
 -- Dictionaries: there is one of the same values, and its codes tell these.
-use Rattle.std.proofs.Common.{◌≡◌, ◌∙◌, T, is_eq, is_none, unwrap_or, ℕ, zero, suc, ◌-◌, ◌<◌, ◌≤◌, List, [], ◌∷◌, length, map, get_or, slice_get, All, Contains, String, Global, string_bytes, Option, Some, None, Ordering, Less, Equal, Greater, nat_cmp, ap, ap₂, sym, subst, refl, ⊎_elim, arith}
+use Rattle.std.proofs.Common.{◌≡◌, ◌∙◌, T, is_eq, is_none, unwrap_or, ℕ, zero, suc, ◌-◌, ◌<◌, ◌≤◌, List, [], ◌∷◌, length, map, get_or, slice_get, All, Contains, Option, Some, None, Ordering, Less, Equal, Greater, nat_cmp, ap, ap₂, sym, subst, refl, ⊎_elim, arith}
 use Rattle.std.specs.Cmp.Lexicographic.{slice_cmp}
 use Rattle.std.specs.Ordering.{ordering_reverse}
 use Rattle.std.specs.List.Sorted.{IsStrictlySortedBy}
@@ -13,7 +13,6 @@ use Rattle.std.proofs.lemmas.Bool.{cases_order}
 use Rattle.std.proofs.lemmas.Cmp.{nat_list_cmp_total, tied_itself}
 use Rattle.std.specs.FinMap.{nat_cmp-IsAntisymmetric, slice_cmp-IsAntisymmetric}
 use Rattle.druid_segment_rows.specs.Columns.{IsDictionary, AreCodes, value_at}
-use Rattle.druid_segment_rows.specs.Rows.{texts_of}
 
 abbrev pub text_cmp : List ℕ → List ℕ → Ordering
 text_cmp = slice_cmp nat_cmp
@@ -78,15 +77,19 @@ value_of_code texts codes values row code is h at =
     ap (λ vs. get_or vs row None) (sym is) ∙ get_or-map (value_at texts) codes row code None h ∙ ap (value_at texts) (sym at)
 
 -- the text at a place, where its code is not that of null
-pub text_found : (strings : List (String Global)) (codes : List ℕ) (values : List (Option (List ℕ))) (row code : ℕ) (string : String Global) (text : List ℕ) → map (value_at (texts_of strings)) codes ≡ values → All (λ code. code ≤ length (texts_of strings)) codes → row < length codes → 1 ≤ code → code ≡ get_or codes row code
-    → text ≡ string_bytes string → string ≡ get_or strings (code - 1) string → Some text ≡ get_or values row None
-text_found strings codes values row zero string text is bounded h some at bytes there = absurd (omega arith)
-text_found strings codes values row (suc k) string text is bounded h some at bytes there =
-    let most : suc k ≤ length (texts_of strings) = subst (λ c. c ≤ length (texts_of strings)) (sym at) (bounded row (suc k) h) in
-    let less : k < length (texts_of strings) = omega arith in
-    let within : k < length strings = omega (arith, less, length-map strings string_bytes) in
-    let here : string ≡ get_or strings k string = simp unary_clauses at there in
-    ap Some (bytes ∙ ap string_bytes here ∙ sym (get_or-map string_bytes strings k string text within)) ∙ sym (slice_get-get_or (texts_of strings) k text less) ∙ sym (value_of_code (texts_of strings) codes values row (suc k) is h at)
+pub text_found : (texts : List (List ℕ)) (codes : List ℕ) (values : List (Option (List ℕ))) (row code : ℕ) (text : List ℕ) → map (value_at texts) codes ≡ values → All (λ code. code ≤ length texts) codes → row < length codes → 1 ≤ code → code ≡ get_or codes row code
+    → text ≡ get_or texts (code - 1) [] → Some text ≡ get_or values row None
+text_found texts codes values row zero text is bounded h some at there = absurd (omega arith)
+text_found texts codes values row (suc k) text is bounded h some at there =
+    let most : suc k ≤ length texts = subst (λ c. c ≤ length texts) (sym at) (bounded row (suc k) h) in
+    let less : k < length texts = omega arith in
+    let here : text ≡ get_or texts k [] = simp unary_clauses at there in
+    ap Some here ∙ sym (slice_get-get_or texts k [] less) ∙ sym (value_of_code texts codes values row (suc k) is h at)
+
+pub code_inside : (texts : List (List ℕ)) (codes : List ℕ) (row code : ℕ) → All (λ code. code ≤ length texts) codes → row < length codes → 1 ≤ code → code ≡ get_or codes row code → code - 1 < length texts
+code_inside texts codes row code bounded h some at =
+    let most : code ≤ length texts = subst (λ c. c ≤ length texts) (sym at) (bounded row code h) in
+    omega (arith, most, some)
 
 -- a code of a row stands for its value
 pub decoded : (texts : List (List ℕ)) (values : List (Option (List ℕ))) (codes : List ℕ) (row d : ℕ) → AreCodes texts values codes → row < length codes → value_at texts (get_or codes row d) ≡ get_or values row None

@@ -7,4 +7,5 @@ pub mod NumberingLemmas
 pub mod PlaceLemmas
 pub mod ShortLemmas
 pub mod TableLemmas
+pub mod TextsLemmas
 mod FilterLemmas

@@ -173,10 +173,14 @@ impl SegmentBuilder {
     }
 
     /// The segment of the rows that were added, in their order.
-    pub fn finish(self) -> Segment
-        ensures value { result ≡ self }
-        ensures valid { IsSegment result }
-        ensures words { HaveWords result }
+    ///
+    /// # Errors
+    ///
+    /// Out of memory.
+    pub fn finish(self) -> Result<Segment, AllocError>
+        ensures value { IfOk result (λ segment. segment ≡ self) }
+        ensures valid { IfOk result IsSegment }
+        ensures words { IfOk result HaveWords }
     {
         let SegmentBuilder {
             descriptor,
@@ -184,10 +188,10 @@ impl SegmentBuilder {
             table,
             ..
         } = self;
-        Segment {
+        Ok(Segment {
             descriptor,
             schema,
-            table: table.finish(),
-        }
+            table: table.finish()?,
+        })
     }
 }

@@ -1,5 +1,5 @@
 //! The values of a dimension, as rows come.
-ghost use Rattle.std.specs.Prelude.{◌≡◌, [], ◌∷◌, ◌++◌, take, OnOk, OnErr};
+ghost use Rattle.std.specs.Prelude.{◌≡◌, [], ◌∷◌, ◌++◌, take, IfOk, OnOk, OnErr};
 ghost use Rattle.std.specs.Option.{option_map};
 
 use crate::column::Column;
@@ -54,12 +54,12 @@ impl ColumnBuilder {
     }
 
     // The column of these values.
-    pub(crate) fn finish(self) -> Column
-        ensures { result ≡ self }
+    pub(crate) fn finish(self) -> Result<Column, AllocError>
+        ensures { IfOk result (λ column. column ≡ self) }
     {
         let ColumnBuilder { texts, mut codes } = self;
         codes.shrink_to_fit();
-        let values = texts.sort(&mut codes);
-        Column::new(values, codes)
+        let values = texts.sort(&mut codes)?;
+        Ok(Column::new(values, codes))
     }
 }

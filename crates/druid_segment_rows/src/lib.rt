@@ -17,6 +17,7 @@ mod schema;
 mod segment;
 mod table;
 mod table_builder;
+mod texts;
 
 pub use builder::SegmentBuilder;
 pub use column::Column;
@@ -29,3 +30,4 @@ pub use numbers::Numbers;
 pub use row::Row;
 pub use schema::Schema;
 pub use segment::Segment;
+pub use texts::Texts;

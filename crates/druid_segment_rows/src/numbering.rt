@@ -7,6 +7,7 @@ ghost use Rattle.druid_segment_rows.specs.Columns.{IsDictionary, value_at};
 ghost use Rattle.druid_segment_rows.specs.Numbering.{Entry, AreNumbered, texts_in, code_by_rank, with_mark, HavePlaces};
 
 use crate::number_cache::{NumberCache, hash_of};
+use crate::texts::Texts;
 use std::alloc::{AllocError, Global};
 use std::marker::Model;
 
@@ -121,11 +122,11 @@ impl Numbering {
     }
 
     // The texts that the codes stand for, in order. The codes become those among these texts.
-    pub(crate) fn sort(self, codes: &mut [u32]) -> Vec<String>
+    pub(crate) fn sort(self, codes: &mut [u32]) -> Result<Texts, AllocError>
         requires { All (λ code. code ≤ length self) codes.old }
-        ensures dictionary { IsDictionary (map (value_at self) codes.old) (texts_of result.items) }
-        ensures stand { map (value_at (texts_of result.items)) codes.new ≡ map (value_at self) codes.old }
-        ensures bounded { All (λ code. code ≤ length (texts_of result.items)) codes.new }
+        ensures dictionary { IfOk result (λ texts. IsDictionary (map (value_at self) codes.old) texts) }
+        ensures stand { IfOk result (λ texts. map (value_at texts) codes.new ≡ map (value_at self) codes.old) }
+        ensures bounded { IfOk result (λ texts. All (λ code. code ≤ length texts) codes.new) }
     {
         let Numbering {
             alloc,
@@ -135,25 +136,19 @@ impl Numbering {
             ..
         } = self;
         put_in_order(entries, &mut values, &mut ranks, codes);
-        pack_texts(alloc, values)
+        pack_texts(alloc, &values)
     }
 }
 
-// Copies of the texts, made one after another: so they lie in memory in their order, and whoever goes through them finds the next
-// one near. Where memory runs out they stay where they are.
-fn pack_texts(alloc: Global, texts: Vec<String>) -> Vec<String>
-    ensures { texts_of result.items ≡ texts_of texts.items }
+// The texts, one after another.
+fn pack_texts(alloc: Global, texts: &[String]) -> Result<Texts, AllocError>
+    ensures { IfOk result (λ packed. packed ≡ texts_of texts.now) }
 {
-    let Ok(mut copies) = Vec::with_capacity(alloc, texts.len()) else {
-        return texts;
-    };
-    for text in &texts {
-        let Ok(copy) = String::from_str(alloc, text.as_str()) else {
-            return texts;
-        };
-        copies.push_reserved(copy);
+    let mut packed = Texts::new(alloc);
+    for text in texts {
+        packed.push(text.as_str())?;
     }
-    copies
+    Ok(packed)
 }
 
 fn mark_one(code: u32, ranks: &mut [u32])

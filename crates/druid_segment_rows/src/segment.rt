@@ -12,6 +12,7 @@ use crate::limits::{MAX_FIELDS, MAX_ROWS, MAX_TEXT};
 use crate::numbers::Numbers;
 use crate::table::Table;
 use crate::table_builder::table_of_rows;
+use crate::texts::Texts;
 use crate::{Row, RowFault, Schema};
 use druid_segment_descriptor::Descriptor;
 use druid_time::{Instant, Interval};
@@ -314,9 +315,9 @@ impl Segment {
     }
 
     /// The texts that rows have for the dimension at that place, each once, rising by their bytes.
-    pub fn values(&self, dimension: usize) -> &[String]
+    pub fn values(&self, dimension: usize) -> &Texts
         requires { dimension < length self.now.fields.dimensions }
-        ensures { IsDictionary (column dimension self.now.rows) (texts_of result.now) }
+        ensures { IsDictionary (column dimension self.now.rows) result.now }
     {
         self.table.values(dimension)
     }

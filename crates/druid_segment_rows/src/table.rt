@@ -10,6 +10,7 @@ ghost use Rattle.druid_segment_rows.specs.Table.{table_of};
 use crate::Row;
 use crate::column::Column;
 use crate::numbers::Numbers;
+use crate::texts::Texts;
 use druid_base::copy_text;
 use druid_time::{Instant, Interval};
 use std::alloc::{AllocError, Global};
@@ -114,9 +115,9 @@ impl Table {
     }
 
     // The texts that rows have for that dimension, each once, in order.
-    pub(crate) fn values(&self, dimension: usize) -> &[String]
+    pub(crate) fn values(&self, dimension: usize) -> &Texts
         requires { dimension < self.now.dimensions }
-        ensures { IsDictionary (column dimension self.now.rows) (texts_of result.now) }
+        ensures { IsDictionary (column dimension self.now.rows) result.now }
     {
         self.dimension_column(dimension).values()
     }

@@ -176,14 +176,18 @@ fn extend<T: AsStr>(
 }
 
 // Puts the finished columns in the place of no columns.
-fn finish_dimensions(dimensions: Vec<ColumnBuilder>, columns: &mut Vec<Column>)
+fn finish_dimensions(
+    dimensions: Vec<ColumnBuilder>,
+    columns: &mut Vec<Column>,
+) -> Result<(), AllocError>
     requires none { columns.old.items ≡ [] }
     requires room { length dimensions.items ≤ vec_capacity columns.old }
-    ensures { columns.new.items ≡ dimensions.items }
+    ensures { OnOk result (columns.new.items ≡ dimensions.items) }
 {
     for column in dimensions {
-        columns.push_reserved(column.finish());
+        columns.push_reserved(column.finish()?);
     }
+    Ok(())
 }
 
 fn shrink_metrics(metrics: &mut [Numbers])
@@ -233,8 +237,8 @@ impl TableBuilder {
     }
 
     // The table of these rows.
-    pub(crate) fn finish(self) -> Table
-        ensures { result ≡ self }
+    pub(crate) fn finish(self) -> Result<Table, AllocError>
+        ensures { IfOk result (λ table. table ≡ self) }
     {
         let TableBuilder {
             alloc,
@@ -244,9 +248,9 @@ impl TableBuilder {
             mut columns,
         } = self;
         times.shrink_to_fit();
-        finish_dimensions(dimensions, &mut columns);
+        finish_dimensions(dimensions, &mut columns)?;
         shrink_metrics(&mut metrics);
-        Table::new(alloc, times, columns, metrics)
+        Ok(Table::new(alloc, times, columns, metrics))
     }
 }
 
@@ -265,5 +269,5 @@ pub(crate) fn table_of_rows(
     for row in rows {
         table.push(&row.lend())?;
     }
-    Ok(table.finish())
+    table.finish()
 }

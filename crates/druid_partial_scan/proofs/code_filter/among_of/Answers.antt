@@ -1,5 +1,5 @@
 use Rattle.std.proofs.Common.{◌∙◌, sym}
-use Rattle.druid_segment_rows.specs.Rows.{texts_of, nullable_texts_of}
+use Rattle.druid_segment_rows.specs.Rows.{nullable_texts_of}
 use Rattle.druid_partial_scan.proofs.CodeLemmas.{null_among, marks_say}
 use Rattle.druid_partial_scan.proofs.code_filter.among_of.Goals as goal
 
@@ -9,5 +9,5 @@ returns-in_default c = λ row h.
 
 pub returns : goal.returns
 returns c = λ row h.
-    marks_say c.args.segment.now row c.in-Some.place c.args.name.now (texts_of c.values.result.now) c.codes.result (nullable_texts_of c.args.wanted.now) c.in_ok-marks.marks h
-    (sym c.dimension_of.ensures.place ∙ c.in-Some.is) (c.codes.ensures (texts_of c.values.result.now) c.values.ensures) (c.in_ok-marks.ensures c.values.ensures.rising)
+    marks_say c.args.segment.now row c.in-Some.place c.args.name.now c.values.result.now c.codes.result (nullable_texts_of c.args.wanted.now) c.in_ok-marks.marks h
+    (sym c.dimension_of.ensures.place ∙ c.in-Some.is) (c.codes.ensures c.values.result.now c.values.ensures) (c.in_ok-marks.ensures c.values.ensures.rising)

@@ -1,8 +1,7 @@
-use Rattle.std.proofs.Common.{◌≤◌, length}
+use Rattle.std.proofs.Common.{◌≤◌, length, [], sym, subst, arith}
 use Rattle.druid_segment_rows.specs.Rows.{max_value}
-use Rattle.druid_segment_file.proofs.WriteLemmas.{text_at}
 use Rattle.druid_segment_file.proofs.columns_writing.append_values.Goals as goal
 
 pub append_value-requires : goal.append_value-requires
 append_value-requires c =
-    text_at (λ text. length text ≤ max_value) c.args.texts.now c.loop-text.text-index c.text-item.result c.as_str.result.now c.requires c.loop-text-test.true c.text-item.is c.as_str.ensures.value
+    subst (λ text. length text ≤ max_value) (sym c.get.ensures) (c.requires c.loop-place.place [] (omega (arith, c.loop-place-test.true, c.len-place-end.ensures.value)))

@@ -1,6 +1,6 @@
 use Rattle.std.proofs.Common.{length, string_bytes, ap, arith}
 use Rattle.std.proofs.lemmas.List.{length-map}
-use Rattle.druid_segment_rows.specs.Rows.{Schema, texts_of}
+use Rattle.druid_segment_rows.specs.Rows.{Schema}
 use Rattle.druid_segment_file.proofs.ColumnWriteLemmas.{none_coded, one_coded, all_coded}
 use Rattle.druid_segment_file.proofs.columns_writing.read_dimensions.Goals as goal
 
@@ -9,7 +9,7 @@ loop-place-init c = none_coded c.args.segment.now
 
 pub loop-place-preserved : goal.loop-place-preserved
 loop-place-preserved c =
-    one_coded c.args.segment.now c.loop-place.place (texts_of c.values.result.now) c.codes.result.now c.loop-place.invariant c.values.ensures c.codes.ensures
+    one_coded c.args.segment.now c.loop-place.place c.values.result.now c.codes.result.now c.loop-place.invariant c.values.ensures c.codes.ensures
 
 pub returns : goal.returns
 returns c =

@@ -2,7 +2,7 @@ use Rattle.std.proofs.Common.{◌<◌, ◌≤◌, ◌++◌, List, length, string
 use Rattle.std.specs.List.{flat_map}
 use Rattle.std.proofs.lemmas.List.{length-map}
 use Rattle.druid_stream.proofs.WriteLemmas.{any_err}
-use Rattle.druid_segment_rows.specs.Rows.{Schema, texts_of}
+use Rattle.druid_segment_rows.specs.Rows.{Schema}
 use Rattle.druid_segment_file.specs.ColumnSpelling.{no_values, dimension}
 use Rattle.druid_segment_file.proofs.WriteLemmas.{up_to_then, no_parts, part_unwritten, part_unspelled, part_waits, parts_done}
 use Rattle.druid_segment_file.proofs.ColumnRoomLemmas.{length_dimension}
@@ -11,7 +11,7 @@ use Rattle.druid_segment_file.proofs.columns_writing.write_dimensions.Goals as g
 
 pub append_dimension-requires : goal.append_dimension-requires
 append_dimension-requires g c =
-    texts_short c.args.segment.now c.loop-place.place (texts_of c.values.result.now) c.schema.ensures.valid c.values.ensures
+    texts_short c.args.segment.now c.loop-place.place c.values.result.now c.schema.ensures.valid c.values.ensures
 
 pub loop-place-init : goal.loop-place-init
 loop-place-init g c = λ dimensions coded. no_parts (g.W.Write.contents c.args.writer.now) c.args.gathered.now.items
@@ -39,7 +39,7 @@ loop-place-preserved g c = λ dimensions coded.
     let within : c.loop-place.place < length dimensions =
     omega (arith, c.loop-place-test.true, length-map c.dimensions-place-end.result.now string_bytes, ap length c.dimensions-place-end.ensures, ap (λ (s : Schema). length s.dimensions) c.schema.ensures.value, coded.long) in
     let so_far = up_to_then (g.W.Write.contents c.args.writer.now) (g.W.Write.contents c.loop-place.writer) written (head ++ flat_map dimension (take c.loop-place.place dimensions)) c.loop-place.gathered.items rest (c.loop-place.invariant dimensions coded) c.in_ok-write_gathered.ensures.ok in
-    let same = same_coded c.args.segment.now dimensions c.loop-place.place (texts_of c.values.result.now) c.codes.result.now coded within c.values.ensures c.codes.ensures in
+    let same = same_coded c.args.segment.now dimensions c.loop-place.place c.values.result.now c.codes.result.now coded within c.values.ensures c.codes.ensures in
     part_waits dimension head dimensions c.loop-place.place no_values (g.W.Write.contents c.args.writer.now) written rest c.append_dimension.new.out.items within (c.in_ok-append_dimension.ensures ∙ ap (λ (t : List _). rest ++ t) same) so_far
 
 pub returns-clause-ok : goal.returns-clause-ok

@@ -23,7 +23,7 @@ loop-column-preserved c =
     let left = into_iter_items c.loop-column.column-iterator in
     let rest = into_iter_items c.next.new.self in
     let split : left ≡ c.in-Some.column ∷ rest = search rules in
-    let pushed : c.push_reserved.new.self.items ≡ items ++ c.in-Some.column ∷ [] = c.push_reserved.ensures.items ∙ ap (λ x. items ++ x ∷ []) c.finish.ensures in
+    let pushed : c.push_reserved.new.self.items ≡ items ++ c.in-Some.column ∷ [] = search rules in
     record {
       all = ap (λ xs. xs ++ rest) pushed ∙ append_assoc items (c.in-Some.column ∷ []) rest ∙ ap (λ xs. items ++ xs) (sym split) ∙ c.loop-column.invariant.all;
       room = c.push_reserved.ensures.capacity ∙ c.loop-column.invariant.room;

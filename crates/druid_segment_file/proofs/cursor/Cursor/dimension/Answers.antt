@@ -1,5 +1,4 @@
 use Rattle.std.proofs.Common.{◌≡◌, ◌∙◌, ap, sym, subst, Ok, IsOk, List, [], ℕ, None}
-use Rattle.druid_segment_rows.specs.Rows.{texts_of}
 use Rattle.druid_segment_file.specs.ColumnSpelling.{Coded}
 use Rattle.druid_segment_file.specs.Parts.{each_at}
 use Rattle.druid_segment_file.specs.ColumnReading.{value_texts_at, code_at, dimension_at}
@@ -30,7 +29,7 @@ codes-requires c =
     let mid = c.u32.new.self in
     let x = ok_value (dimension_at short rows c.args.self.now.rest) c.requires in
     let d = dimension_parts short rows c.args.self.now.rest n mid.rest x.0 c.in-Ok.ensures.0 x.1 in
-    let texts = texts_of c.in_ok-values.values.items in
+    let texts = c.in_ok-values.values in
     let between = c.value_texts.new.self in
     let texts_read = subst (λ s. value_texts_at s n None mid.rest ≡ Ok (texts, between.rest)) c.in-Ok.ensures.1 c.in_ok-values.ensures.is in
     subst (λ s. IsOk (each_at (code_at s n) rows between.rest)) (sym (c.in_ok-values.ensures.short ∙ c.in-Ok.ensures.1)) (codes_are_ok short rows n mid.rest x.0 d texts between.rest [] [] texts_read)
@@ -43,7 +42,7 @@ new-requires-clause-dictionary c =
     let mid = c.u32.new.self in
     let x = ok_value (dimension_at short rows c.args.self.now.rest) c.requires in
     let d = dimension_parts short rows c.args.self.now.rest n mid.rest x.0 c.in-Ok.ensures.0 x.1 in
-    let texts = texts_of c.in_ok-values.values.items in
+    let texts = c.in_ok-values.values in
     let between = c.value_texts.new.self in
     let texts_read = subst (λ s. value_texts_at s n None mid.rest ≡ Ok (texts, between.rest)) c.in-Ok.ensures.1 c.in_ok-values.ensures.is in
     let codes = c.in_ok-codes.codes.items in
@@ -59,7 +58,7 @@ new-requires-clause-bounded c =
     let mid = c.u32.new.self in
     let x = ok_value (dimension_at short rows c.args.self.now.rest) c.requires in
     let d = dimension_parts short rows c.args.self.now.rest n mid.rest x.0 c.in-Ok.ensures.0 x.1 in
-    let texts = texts_of c.in_ok-values.values.items in
+    let texts = c.in_ok-values.values in
     let between = c.value_texts.new.self in
     let texts_read = subst (λ s. value_texts_at s n None mid.rest ≡ Ok (texts, between.rest)) c.in-Ok.ensures.1 c.in_ok-values.ensures.is in
     let codes = c.in_ok-codes.codes.items in
@@ -75,7 +74,7 @@ returns c =
     let mid = c.u32.new.self in
     let x = ok_value (dimension_at short rows c.args.self.now.rest) c.requires in
     let d = dimension_parts short rows c.args.self.now.rest n mid.rest x.0 c.in-Ok.ensures.0 x.1 in
-    let texts = texts_of c.in_ok-values.values.items in
+    let texts = c.in_ok-values.values in
     let between = c.value_texts.new.self in
     let texts_read = subst (λ s. value_texts_at s n None mid.rest ≡ Ok (texts, between.rest)) c.in-Ok.ensures.1 c.in_ok-values.ensures.is in
     let codes = c.in_ok-codes.codes.items in

@@ -1,6 +1,4 @@
-use Rattle.std.proofs.Common.{◌≡◌, ◌++◌, ◌∷◌, ◌∙◌, [], List, ℕ, Ok, Err, None, subst, ap, option_map, string_bytes}
-use Rattle.std.proofs.lemmas.List.{map_push}
-use Rattle.druid_segment_rows.specs.Rows.{texts_of}
+use Rattle.std.proofs.Common.{◌≡◌, ◌∙◌, Ok, Err, None, subst, option_map}
 use Rattle.druid_segment_file.specs.ColumnReading.{value_text_at, value_texts_at}
 use Rattle.druid_segment_file.specs.Borrowed.{bytes_of}
 use Rattle.druid_segment_file.proofs.LoopLemmas.{texts_go_on, texts_end, texts_done, not_read}
@@ -12,7 +10,7 @@ unreachable-requires c =
     let last = option_map bytes_of c.loop.last in
     let total = value_texts_at short c.args.count None c.args.self.now.rest in
     let failed = subst (λ s. value_text_at s last c.loop.self.rest ≡ Err c.in-Err.field-0) c.loop.invariant.short c.in-Err.ensures in
-    not_read total c.in-Err.field-0 c.requires (texts_end short c.in-Err.field-0 last (texts_of c.loop.values.items) c.args.count c.loop.counter c.loop.self.rest total c.loop-test.true failed c.loop.invariant.reading)
+    not_read total c.in-Err.field-0 c.requires (texts_end short c.in-Err.field-0 last c.loop.values c.args.count c.loop.counter c.loop.self.rest total c.loop-test.true failed c.loop.invariant.reading)
 
 pub loop-preserved : goal.loop-preserved
 loop-preserved c =
@@ -22,16 +20,15 @@ loop-preserved c =
     let after = c.value_text.new.self in
     let total = value_texts_at short c.args.count None c.args.self.now.rest in
     let here = subst (λ s. value_text_at s last c.loop.self.rest ≡ Ok (text, after.rest)) c.loop.invariant.short c.in-Ok.ensures.0 in
-    let pushed : texts_of c.push.new.self.items ≡ texts_of c.loop.values.items ++ text ∷ [] = rw c.in_ok-push.ensures.items (map_push string_bytes c.loop.values.items c.in_ok-from_str.field-0 ∙ ap (λ (t : List ℕ). texts_of c.loop.values.items ++ t ∷ []) c.in_ok-from_str.ensures.ok) in
     record {
       short = c.in-Ok.ensures.1 ∙ c.loop.invariant.short;
-      reading = rw pushed (texts_go_on short last (texts_of c.loop.values.items) c.args.count c.loop.counter c.loop.self.rest text after.rest total c.loop-test.true here c.loop.invariant.reading);
+      reading = rw c.in_ok-push.ensures.ok (texts_go_on short last c.loop.values c.args.count c.loop.counter c.loop.self.rest text after.rest total c.loop-test.true here c.loop.invariant.reading);
     }
 
 pub returns : goal.returns
 returns c =
     let short = c.args.self.now.short in
     record {
-      is = texts_done short (option_map bytes_of c.loop.last) (texts_of c.loop.values.items) c.args.count c.loop.counter c.loop.self.rest (value_texts_at short c.args.count None c.args.self.now.rest) c.loop-test.false c.loop.invariant.reading;
+      is = texts_done short (option_map bytes_of c.loop.last) c.loop.values c.args.count c.loop.counter c.loop.self.rest (value_texts_at short c.args.count None c.args.self.now.rest) c.loop-test.false c.loop.invariant.reading;
       short = c.loop.invariant.short;
     }

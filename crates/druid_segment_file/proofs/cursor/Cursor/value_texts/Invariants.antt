@@ -1,5 +1,4 @@
 use Rattle.std.proofs.Common.{◌≡◌, ◌-◌, option_map, None}
-use Rattle.druid_segment_rows.specs.Rows.{texts_of}
 use Rattle.druid_segment_file.specs.ColumnReading.{value_texts_at}
 use Rattle.druid_segment_file.specs.Borrowed.{bytes_of}
 use Rattle.druid_segment_file.proofs.LoopLemmas.{with_front}
@@ -8,5 +7,5 @@ use Rattle.druid_segment_file.proofs.cursor.Cursor.value_texts.Given as goal
 abbrev pub invariant-loop : goal.invariant-loop
 invariant-loop l = record {
   short : l.self.short ≡ l.fn.self.short;
-  reading : with_front (texts_of l.values.items) (value_texts_at l.fn.self.short (l.count - l.counter) (option_map bytes_of l.last) l.self.rest) ≡ value_texts_at l.fn.self.short l.count None l.fn.self.rest;
+  reading : with_front l.values (value_texts_at l.fn.self.short (l.count - l.counter) (option_map bytes_of l.last) l.self.rest) ≡ value_texts_at l.fn.self.short l.count None l.fn.self.rest;
 }
