@@ -1,12 +1,12 @@
 -- What is known of files, kept in a map.
-use Rattle.std.proofs.Common.{◌≡◌, ℕ, zero, suc, ◌<◌, ◌≤◌, ◌⊎◌, inl, inr, ◌||◌, List, [], ◌∷◌, length, map, get_or, true, false, cond, Option, Some, None, IsSome, is_some, refl, sym, ap, subst, ◌∙◌, string_bytes, arith}
+use Rattle.std.proofs.Common.{◌≡◌, ℕ, zero, suc, ◌+◌, ◌<◌, ◌≤◌, ◌⊎◌, inl, inr, ◌||◌, List, [], ◌∷◌, length, map, get_or, true, false, cond, Option, Some, None, IsSome, is_some, refl, sym, ap, subst, ◌∙◌, string_bytes, arith}
 use Rattle.std.specs.BTreeMap as tree
 use Rattle.std.specs.BTreeMap.{BTreeMap, is_at}
 use Rattle.std.specs.Cmp.Lexicographic.{slice_cmp}
 use Rattle.std.specs.List.{list_any}
-use Rattle.std.specs.List.Sorted.{IsPartitionPoint}
+use Rattle.std.specs.List.Sorted.{IsNonDecreasingBy, IsPartitionPoint, IsSortedBy}
 use Rattle.std.specs.Map.{lookup}
-use Rattle.std.specs.Ordering.{nat_cmp, is_eq}
+use Rattle.std.specs.Ordering.{nat_cmp, is_eq, is_lt, ordering_index, ordering_reverse}
 use Rattle.std.specs.Str.{bytes_eq}
 use Rattle.std.specs.String.{string_cmp}
 use Rattle.std.specs.declared.cmp.Ordering.TheVariants.{Less, Equal, Greater}
@@ -15,10 +15,12 @@ use Rattle.std.specs.declared.string.String.{String}
 use Rattle.std.proofs.lemmas.Map.Text.{is_eq-slice_cmp, btree_map_updates_text}
 use Rattle.std.specs.Cmp.Lexicographic.{nat_list_eq_equiv}
 use Rattle.std.proofs.lemmas.Bool.{false≢true}
-use Rattle.std.proofs.lemmas.Cmp.{ranked, by_ranked}
+use Rattle.std.proofs.lemmas.Cmp.{nat_list_cmp_total, ranked, by_ranked}
 use Rattle.std.proofs.lemmas.List.Recursion.{or_from_places}
 use Rattle.std.proofs.lemmas.List.{get_or-map, length-map}
-use Rattle.druid_folder.specs.Folder.{names_of}
+use Rattle.std.proofs.lemmas.List.Sorted.{searchable_from_sorted}
+use Rattle.std.proofs.lemmas.Map.Keys.{Less-from_sorted}
+use Rattle.druid_folder.specs.Folder.{AreInOrder, names_of}
 use Rattle.druid_serve_node.specs.Looks.{File, Notes, state_of, known_names}
 use Rattle.druid_serve_node.specs.Layout.{files_of}
 use Rattle.druid_serve_node.specs.declared.known.FileState.{FileState}
@@ -53,6 +55,20 @@ keys_named [] = refl
 keys_named (e ∷ entries) = ap (λ ns. string_bytes e.0 ∷ ns) (keys_named entries)
 
 -- ---- names that a folder lists
+
+-- names in their order can be searched by halving
+pub searchable : (names : List (String Global)) (x : String Global) → AreInOrder (names_of names) → IsNonDecreasingBy (λ y. ordering_index (slice_cmp nat_cmp (string_bytes y) (string_bytes x))) names
+searchable names x s = searchable_from_sorted nat_list_cmp_total string_bytes names (string_bytes x) rising
+  where
+    at : (k : ℕ) (d : String Global) → k < length names → string_bytes (get_or names k d) ≡ get_or (names_of names) k (string_bytes d)
+    at k d h = sym (get_or-map string_bytes names k d (string_bytes d) h)
+
+    rising : IsSortedBy (λ a b. is_lt (slice_cmp nat_cmp (string_bytes a) (string_bytes b))) names
+    rising k d low lt =
+        let less = Less-from_sorted (slice_cmp nat_cmp) (names_of names) k (k + 1) (string_bytes d) s (omega arith) (omega (arith, lt, length-map names string_bytes)) in
+        ap is_lt
+        (nat_list_cmp_total.antisymm (string_bytes (get_or names (k + 1) d)) (string_bytes (get_or names k d))
+        ∙ ap ordering_reverse (ap (λ t. slice_cmp nat_cmp t (string_bytes (get_or names (k + 1) d))) (at k d (omega (arith, lt))) ∙ ap (slice_cmp nat_cmp (get_or (names_of names) k (string_bytes d))) (at (k + 1) d (omega (arith, lt))) ∙ less))
 
 apart : (y x : List ℕ) → is_eq (slice_cmp nat_cmp y x) ≡ false → bytes_eq x y ≡ false
 apart y x differ = nat_list_eq_equiv.symm x y ∙ sym (is_eq-slice_cmp y x) ∙ differ

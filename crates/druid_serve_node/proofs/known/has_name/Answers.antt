@@ -1,6 +1,5 @@
 use Rattle.std.proofs.Common.{sym}
-use Rattle.druid_partial_scan.proofs.RankLemmas.{searchable}
-use Rattle.druid_serve_node.proofs.KnownLemmas.{is_found, is_absent}
+use Rattle.druid_serve_node.proofs.KnownLemmas.{searchable, is_found, is_absent}
 use Rattle.druid_serve_node.proofs.known.has_name.Goals as goal
 
 pub returns-in-Ok : goal.returns-in-Ok
