@@ -7,6 +7,7 @@ use Rattle.std.specs.declared.cmp.Ordering.{Ordering}
 use Rattle.std.specs.declared.cmp.Ordering.TheVariants.{Less, Equal}
 use Rattle.std.proofs.lemmas.Cmp.{nat_cmp_total, tied_itself}
 use Rattle.std.proofs.lemmas.List.Elements.{All-head, All-tail, Contains-get_or}
+use Rattle.std.proofs.lemmas.Map.Keys.{sorted_tail, Less-from_sorted}
 use Rattle.druid_base.proofs.OrderLemmas.{nat_cmp-lt}
 use Rattle.druid_base.proofs.ListLemmas.{IsStrictlyIncreasing-tail, IsStrictlyIncreasing-first}
 use Rattle.druid_time.specs.Instant.{instant_count}
@@ -38,10 +39,6 @@ apart R o x y less same =
     let both : Less ≡ Equal = sym less ∙ tied in
     cc
 
-sorted_rest : {K : Type 0} (R : K → K → Ordering) (x : K) (xs : List K) → IsStrictlySortedBy R (x ∷ xs) → IsStrictlySortedBy R xs
-unfolding IsStrictlySortedBy
-sorted_rest R x xs s = s.1
-
 sorted_first : {K : Type 0} (R : K → K → Ordering) (x : K) (xs : List K) → IsStrictlySortedBy R (x ∷ xs) → (y : K) → Contains xs y → R x y ≡ Less
 unfolding IsStrictlySortedBy
 sorted_first R x xs s y c = less_each R x xs s.0 y c
@@ -52,7 +49,7 @@ one_list R o [] [] s t to back = refl
 one_list R o [] (y ∷ ys) s t to back = absurd (Contains-nil y (back y (0, omega arith, refl)))
 one_list R o (x ∷ xs) [] s t to back = absurd (Contains-nil x (to x (0, omega arith, refl)))
 one_list {K} R o (x ∷ xs) (y ∷ ys) s t to back =
-    let rest = one_list R o xs ys (sorted_rest R x xs s) (sorted_rest R y ys t)
+    let rest = one_list R o xs ys (sorted_tail R x xs s) (sorted_tail R y ys t)
     (λ a c. elim (Contains-cons y ys a (to a (Contains-later x xs a c))) [
       | inl same ↦ absurd (apart R o x a (sorted_first R x xs s a c) (first ∙ same))
       | inr there ↦ there
@@ -163,12 +160,6 @@ segment_served inventory source held pieces a holding w =
     let partition : from.1.id.partition ≡ a.0.partition = ap (λ (h : Held). h.member.partition) (sym from.4) ∙ ap (λ (m : Member). m.partition) of.2 ∙ w.served.2 in
     (from.0, from.1, from.2, same_id from.1 a.0 (from.3 ∙ sym w.of_source) (ap (λ (h : Held). h.group) (sym from.4) ∙ group) partition)
 
-sorted_later : {K : Type 0} (R : K → K → Ordering) (xs : List K) → IsStrictlySortedBy R xs → (i j : ℕ) (d : K) → i < j → j < length xs → R (get_or xs i d) (get_or xs j d) ≡ Less
-sorted_later R [] s i j d h within = absurd (omega arith)
-sorted_later R (x ∷ xs) s i zero d h within = absurd (omega arith)
-sorted_later R (x ∷ xs) s zero (suc j) d h within = sorted_first R x xs s (get_or xs j d) (Contains-get_or xs j d (omega arith))
-sorted_later R (x ∷ xs) s (suc i) (suc j) d h within = sorted_later R xs (sorted_rest R x xs s) i j d (omega arith) (omega arith)
-
 pub may_be_asked : (inventory : List Entry) (query : Query) (pairs : List Pair) (asked : List Asked) → IsPlanOf inventory query pairs → ((node : ℕ) (d : Described) → Serves inventory node d → IsDescribed d)
     → (a : Asked) × Contains asked a → ((a : Asked) → Contains asked a → Contains (asked_of pairs) a) → IsStrictlySortedBy place_cmp asked → IsAsked query.source asked
 may_be_asked inventory query pairs asked p described some among sorted = record {
@@ -207,6 +198,6 @@ may_be_asked inventory query pairs asked p described some among sorted = record 
     trichotomy i j = grind arith
 
     places : (i j : ℕ) (a : Asked) → i < length asked → j < length asked → (i < j) ⊎ ((i ≡ j) ⊎ (j < i)) → get_or asked i a ≡ get_or asked j a → i ≡ j
-    places i j a li lj (inl before) same = absurd (apart place_cmp place_cmp-total _ _ (sorted_later place_cmp asked sorted i j a before lj) same)
+    places i j a li lj (inl before) same = absurd (apart place_cmp place_cmp-total _ _ (Less-from_sorted place_cmp asked i j a sorted before lj) same)
     places i j a li lj (inr (inl is)) same = is
-    places i j a li lj (inr (inr beyond)) same = absurd (apart place_cmp place_cmp-total _ _ (sorted_later place_cmp asked sorted j i a beyond li) (sym same))
+    places i j a li lj (inr (inr beyond)) same = absurd (apart place_cmp place_cmp-total _ _ (Less-from_sorted place_cmp asked j i a sorted beyond li) (sym same))

@@ -1,14 +1,13 @@
 -- Codes of a dictionary are in the order of their values, so equal codes are equal values.
 use Rattle.std.proofs.Common.{◌≡◌, ◌∙◌, ℕ, zero, suc, ◌+◌, ◌<◌, ◌≤◌, List, [], ◌∷◌, length, get_or, Some, None, refl, sym, ap, subst, arith}
 use Rattle.std.specs.Prelude.{◌==◌, slice_get, slice_index_or}
-use Rattle.std.specs.List.{AllByRecursion}
 use Rattle.std.specs.List.Sorted.{IsStrictlySortedBy}
 use Rattle.std.specs.Ordering.{nat_cmp, is_eq, ordering_reverse}
 use Rattle.std.specs.declared.cmp.Ordering.TheVariants.{Less, Equal, Greater}
 use Rattle.std.specs.Cmp.{unsigned_ties}
 use Rattle.std.specs.Cmp.Lexicographic.{slice_cmp}
 use Rattle.std.proofs.lemmas.Cmp.{nat_list_cmp_total, tied_itself, ranked, by_ranked}
-use Rattle.std.proofs.lemmas.Map.Keys.{sorted_head, sorted_tail}
+use Rattle.std.proofs.lemmas.Map.Keys.{Less-from_sorted}
 use Rattle.std.proofs.lemmas.Map.Lookups.{exact_bytes}
 use Rattle.std.proofs.lemmas.Option.{slice_get-get_or}
 use Rattle.std.proofs.lemmas.List.{get_or-map, length-map}
@@ -25,23 +24,12 @@ use Rattle.druid_partial_scan.specs.CodeFilters.{IsCodeOf}
 use Rattle.druid_partial_scan.proofs.CodeFilterLemmas.{value_tie}
 use Rattle.druid_partial_scan.proofs.RadixLemmas.{equal_is}
 
-above : (t : List ℕ) (ts : List (List ℕ)) (j : ℕ) (d : List ℕ) → AllByRecursion (λ y. slice_cmp nat_cmp t y ≡ Less) ts → j < length ts → slice_cmp nat_cmp t (get_or ts j d) ≡ Less
-above t [] j d all h = absurd (omega arith)
-above t (u ∷ ts) zero d all h = all.0
-above t (u ∷ ts) (suc j) d all h = above t ts j d all.1 (omega (arith, h))
-
-less_of : (ts : List (List ℕ)) (i j : ℕ) (d : List ℕ) → IsStrictlySortedBy (slice_cmp nat_cmp) ts → i < j → j < length ts → slice_cmp nat_cmp (get_or ts i d) (get_or ts j d) ≡ Less
-less_of [] i j d s h k = absurd (omega arith)
-less_of (t ∷ ts) i zero d s h k = absurd (omega arith)
-less_of (t ∷ ts) zero (suc j) d s h k = above t ts j d (sorted_head (slice_cmp nat_cmp) t ts s) (omega (arith, k))
-less_of (t ∷ ts) (suc i) (suc j) d s h k = less_of ts i j d (sorted_tail (slice_cmp nat_cmp) t ts s) (omega (arith, h)) (omega (arith, k))
-
 texts_rank : (ts : List (List ℕ)) (i j : ℕ) (d : List ℕ) → IsStrictlySortedBy (slice_cmp nat_cmp) ts → i < length ts → j < length ts → slice_cmp nat_cmp (get_or ts i d) (get_or ts j d) ≡ nat_cmp i j
 texts_rank ts i j d s p q =
     by_ranked (i < j) (i ≡ j) (j < i) (nat_cmp i j) (ranked i j (nat_cmp i j) refl)
-    (λ o h. less_of ts i j d s h q ∙ sym o)
+    (λ o h. Less-from_sorted (slice_cmp nat_cmp) ts i j d s h q ∙ sym o)
     (λ o h. ap (λ k. slice_cmp nat_cmp (get_or ts i d) (get_or ts k d)) (sym h) ∙ tied_itself nat_list_cmp_total (get_or ts i d) ∙ sym o)
-    (λ o h. nat_list_cmp_total.antisymm (get_or ts i d) (get_or ts j d) ∙ ap ordering_reverse (less_of ts j i d s h p) ∙ sym o)
+    (λ o h. nat_list_cmp_total.antisymm (get_or ts i d) (get_or ts j d) ∙ ap ordering_reverse (Less-from_sorted (slice_cmp nat_cmp) ts j i d s h p) ∙ sym o)
 
 some_at : (ts : List (List ℕ)) (k : ℕ) → k < length ts → slice_get ts k ≡ Some (get_or ts k [])
 some_at ts k h = slice_get-get_or ts k [] h
@@ -81,7 +69,7 @@ AreAbove texts x high = (k : ℕ) → high ≤ k → k < length texts → slice_
 pub below_to : (texts : List (List ℕ)) (x : List ℕ) (k : ℕ) → IsStrictlySortedBy (slice_cmp nat_cmp) texts → k < length texts → slice_cmp nat_cmp (get_or texts k []) x ≡ Less → AreBelow texts x (k + 1)
 below_to texts x k s h less m lt =
     by_ranked (m < k) (m ≡ k) (k < m) (nat_cmp m k) (ranked m k (nat_cmp m k) refl)
-    (λ o l. nat_list_cmp_total.trans (get_or texts m []) (get_or texts k []) x (less_of texts m k [] s l h) less)
+    (λ o l. nat_list_cmp_total.trans (get_or texts m []) (get_or texts k []) x (Less-from_sorted (slice_cmp nat_cmp) texts m k [] s l h) less)
     (λ o e. subst (λ n. slice_cmp nat_cmp (get_or texts n []) x ≡ Less) (sym e) less)
     (λ o g. absurd (omega (arith, lt, g)))
 
@@ -89,7 +77,7 @@ pub above_from : (texts : List (List ℕ)) (x : List ℕ) (k : ℕ) → IsStrict
 above_from texts x k s greater m le h =
     by_ranked (k < m) (k ≡ m) (m < k) (nat_cmp k m) (ranked k m (nat_cmp k m) refl)
     (λ o l. nat_list_cmp_total.antisymm (get_or texts m []) x
-    ∙ ap ordering_reverse (nat_list_cmp_total.trans x (get_or texts k []) (get_or texts m []) (nat_list_cmp_total.antisymm x (get_or texts k []) ∙ ap ordering_reverse greater) (less_of texts k m [] s l h)))
+    ∙ ap ordering_reverse (nat_list_cmp_total.trans x (get_or texts k []) (get_or texts m []) (nat_list_cmp_total.antisymm x (get_or texts k []) ∙ ap ordering_reverse greater) (Less-from_sorted (slice_cmp nat_cmp) texts k m [] s l h)))
     (λ o e. subst (λ n. slice_cmp nat_cmp (get_or texts n []) x ≡ Greater) e greater)
     (λ o g. absurd (omega (arith, le, g)))
 

@@ -161,6 +161,7 @@ fn texts(rt: &impl Abort, alloc: Global) {
     push_text(rt, alloc, &mut texts, "a");
     push_text(rt, alloc, &mut texts, "");
     push_text(rt, alloc, &mut texts, "caf\u{e9}");
+    assert_call(rt, "then Texts::len", texts.len() == 3);
     if texts.len() == 3 {
         let found = (texts.get(0), texts.get(1), texts.get(2));
         assert_call(rt, "then Texts::get", found == ("a", "", "caf\u{e9}"));
@@ -196,6 +197,7 @@ fn numbers(rt: &impl Abort, alloc: Global) {
     push_number(rt, alloc, &mut numbers, Some(7));
     push_number(rt, alloc, &mut numbers, None);
     push_number(rt, alloc, &mut numbers, Some(-5));
+    assert_call(rt, "then Numbers::len", numbers.len() == 3);
     if numbers.len() == 3 {
         let values = (numbers.get(0), numbers.get(1), numbers.get(2));
         assert_call(rt, "then Numbers::get", values == (Some(7), None, Some(-5)));

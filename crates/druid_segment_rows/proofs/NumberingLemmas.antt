@@ -1,11 +1,10 @@
 -- Numbers of texts, as one more text gets one.
-use Rattle.std.proofs.Common.{◌≡◌, ◌∙◌, ℕ, zero, suc, ◌-◌, ◌<◌, ◌≤◌, List, [], ◌∷◌, ◌++◌, length, map, take, drop, get_or, slice_get, Option, Some, All, String, Global, string_bytes, ap, sym, refl, arith, ⊎_elim, Result, Ok, Err, OnErr, IfOk, take-append-drop, length-take}
+use Rattle.std.proofs.Common.{◌≡◌, ◌∙◌, ℕ, zero, suc, ◌-◌, ◌<◌, ◌≤◌, List, [], ◌∷◌, ◌++◌, length, map, take, drop, slice_get, Option, Some, All, string_bytes, ap, sym, refl, arith, ⊎_elim, Result, Ok, Err, OnErr, IfOk, take-append-drop, length-take}
 use Rattle.std.specs.Option.{option_map}
 use Rattle.std.proofs.lemmas.Bool.{cases_eq}
 use Rattle.std.proofs.lemmas.List.{take_at, map_push, get_or_push, get_or_append_left, length_push}
 use Rattle.std.proofs.lemmas.List.Elements.{All-head, All-tail, All-weaker}
-use Rattle.std.proofs.lemmas.Option.{slice_get_within, slice_get-map, slice_get-get_or}
-use Rattle.druid_segment_rows.specs.Rows.{texts_of}
+use Rattle.std.proofs.lemmas.Option.{slice_get_within, slice_get-map}
 use Rattle.druid_segment_rows.specs.Columns.{value_at}
 use Rattle.druid_segment_rows.specs.Numbering.{Entry, AreNumbered, texts_in}
 
@@ -22,13 +21,6 @@ text_found es zero found low is = absurd (omega arith)
 text_found es (suc k) found low is =
     let place : suc k - 1 ≡ k = omega arith in
     ap (option_map (λ (e : Entry). string_bytes e.0)) (is ∙ ap (slice_get es) place) ∙ sym (slice_get-map (λ (e : Entry). string_bytes e.0) es k)
-
--- the number of the last text is how many there are
-pub last_found : (values : List (String Global)) (len : ℕ) (d : String Global) → len ≡ length values → 1 ≤ len → value_at (texts_of values) len ≡ Some (string_bytes (get_or values (len - 1) d))
-last_found values zero d is low = absurd (omega arith)
-last_found values (suc k) d is low =
-    let place : suc k - 1 ≡ k = omega arith in
-    slice_get-map string_bytes values k ∙ ap (option_map string_bytes) (slice_get-get_or values k d (omega (arith, is))) ∙ ap (λ n. Some (string_bytes (get_or values n d))) (sym place)
 
 -- what was there stays where a text is added
 pub kept_front : (xs : List (List ℕ)) (text : List ℕ) → take (length xs) (xs ++ text ∷ []) ≡ xs

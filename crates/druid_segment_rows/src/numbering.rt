@@ -1,10 +1,8 @@
 //! The texts of a dimension, numbered as they come, and put in order at the end.
-ghost use Rattle.std.specs.Prelude.{◌≡◌, ◌≢◌, string_bytes, ◌*◌, ◌↔◌, List, ℕ, suc, ◌+◌, ◌-◌, ◌^◌, ◌<◌, ◌≤◌, [], ◌∷◌, ◌++◌, set, length, map, take, slice_index_or, vec_capacity, Some, All, Contains, IsTrue, IfOk, OnOk, OnErr, OnSome};
+ghost use Rattle.std.specs.Prelude.{◌≡◌, ◌≢◌, ◌*◌, ◌↔◌, List, ℕ, suc, ◌+◌, ◌-◌, ◌^◌, ◌<◌, ◌≤◌, [], ◌∷◌, ◌++◌, set, length, map, take, slice_index_or, Some, All, Contains, IsTrue, IfOk, OnOk};
 ghost use Rattle.std.specs.Option.{option_map};
-ghost use Rattle.std.specs.List.Sorted.{IsPermutation};
-ghost use Rattle.druid_segment_rows.specs.Rows.{texts_of};
 ghost use Rattle.druid_segment_rows.specs.Columns.{IsDictionary, value_at};
-ghost use Rattle.druid_segment_rows.specs.Numbering.{Entry, AreNumbered, texts_in, code_by_rank, with_mark, HavePlaces};
+ghost use Rattle.druid_segment_rows.specs.Numbering.{AreNumbered, texts_in, code_by_rank, with_mark, HavePlaces};
 
 use crate::number_cache::{NumberCache, hash_of};
 use crate::texts::Texts;
@@ -12,30 +10,23 @@ use std::alloc::{AllocError, Global};
 use std::marker::Model;
 
 // Texts by numbers, which count from 1 on as the texts come. A text may have several: it gets a new one where the cache
-// has lost the last. It has the room that putting them in order takes.
+// has lost the last.
 #[derive(Debug, Drop)]
 pub(crate) struct Numbering {
     alloc: Global,
     entries: Vec<(String, u32)>,
     cache: NumberCache,
-    values: Vec<String>,
-    ranks: Vec<u32>,
 }
 
 impl Model for Numbering {
-    ghost use Rattle.std.specs.Prelude.{◌≡◌, ◌*◌, ◌^◌, ◌<◌, ◌≤◌, List, ℕ, [], length, All, vec_capacity};
+    ghost use Rattle.std.specs.Prelude.{◌*◌, ◌^◌, ◌<◌, List, ℕ, length};
     ghost use Rattle.druid_segment_rows.specs.Numbering.{texts_in, AreNumbered};
 
     ghost Value = { List (List ℕ) };
 
     ghost view = { λ a. texts_in a.entries.items };
 
-    ghost invariant = { λ a. AreNumbered a.entries.items
-        × (a.values.items ≡ [])
-        × (length a.entries.items ≤ vec_capacity a.values)
-        × (length a.ranks.items ≡ length a.entries.items)
-        × (length a.entries.items < 2 ^ 32)
-        × All (λ rank. rank ≡ 0) a.ranks.items };
+    ghost invariant = { λ a. AreNumbered a.entries.items × (length a.entries.items < 2 ^ 32) };
 }
 
 // The text of a number.
@@ -70,8 +61,6 @@ impl Numbering {
             alloc,
             entries: Vec::new(alloc),
             cache: NumberCache::new(alloc),
-            values: Vec::new(alloc),
-            ranks: Vec::new(alloc),
         }
     }
 
@@ -112,12 +101,8 @@ impl Numbering {
         let Ok(number) = u32::try_from(self.entries.len() + 1) else {
             return Err(AllocError);
         };
-        self.values.reserve(number as usize)?;
-        self.ranks.reserve(1)?;
-        self.entries.reserve(1)?;
         let text = String::from_str(self.alloc, text)?;
-        self.entries.push_reserved((text, number));
-        self.ranks.push_reserved(0);
+        self.entries.push((text, number))?;
         Ok(number)
     }
 
@@ -128,27 +113,10 @@ impl Numbering {
         ensures stand { IfOk result (λ texts. map (value_at texts) codes.new ≡ map (value_at self) codes.old) }
         ensures bounded { IfOk result (λ texts. All (λ code. code ≤ length texts) codes.new) }
     {
-        let Numbering {
-            alloc,
-            entries,
-            mut values,
-            mut ranks,
-            ..
-        } = self;
-        put_in_order(entries, &mut values, &mut ranks, codes);
-        pack_texts(alloc, &values)
+        let Numbering { alloc, entries, .. } = self;
+        let mut ranks = vec![in alloc; 0; entries.len()]?;
+        put_in_order(alloc, entries, &mut ranks, codes)
     }
-}
-
-// The texts, one after another.
-fn pack_texts(alloc: Global, texts: &[String]) -> Result<Texts, AllocError>
-    ensures { IfOk result (λ packed. packed ≡ texts_of texts.now) }
-{
-    let mut packed = Texts::new(alloc);
-    for text in texts {
-        packed.push(text.as_str())?;
-    }
-    Ok(packed)
 }
 
 fn mark_one(code: u32, ranks: &mut [u32])
@@ -174,56 +142,60 @@ fn mark(codes: &[u32], ranks: &mut [u32])
 }
 
 // The last of the values.
-fn last_of(values: &[String]) -> Option<&str>
-    ensures { option_map (λ text. text.now) result ≡ value_at (texts_of values.now) (length values.now) }
+fn last_of(values: &Texts) -> Option<&str>
+    ensures { option_map (λ text. text.now) result ≡ value_at values.now (length values.now) }
 {
     match values.len() {
         0 => None,
-        len => Some(values[len - 1].as_str()),
+        len => Some(values.get(len - 1)),
     }
 }
 
 // Puts a text after the values where its number has a mark, unless it is the last of them, and writes its place over
 // that.
-fn place_one(text: String, number: u32, values: &mut Vec<String>, ranks: &mut [u32])
+fn place_one(
+    text: &str,
+    number: u32,
+    values: &mut Texts,
+    ranks: &mut [u32],
+) -> Result<(), AllocError>
     requires low { 1 ≤ number }
     requires high { number ≤ length ranks.old }
-    requires room { length values.old.items < vec_capacity values.old }
-    requires fits { length values.old.items + 1 < 2 ^ 32 }
+    requires fits { length values.old + 1 < 2 ^ 32 }
     ensures skips { slice_index_or ranks.old (number - 1) 0 ≡ 0
-        → (values.new.items ≡ values.old.items) × (ranks.new ≡ ranks.old) }
+        → OnOk result ((values.new ≡ values.old) × (ranks.new ≡ ranks.old)) }
     ensures again { 0 < slice_index_or ranks.old (number - 1) 0
-        → value_at (texts_of values.old.items) (length values.old.items) ≡ Some (string_bytes text)
-        → (values.new.items ≡ values.old.items) × (ranks.new ≡ set ranks.old (number - 1) (length values.old.items)) }
+        → value_at values.old (length values.old) ≡ Some text.now
+        → OnOk result ((values.new ≡ values.old) × (ranks.new ≡ set ranks.old (number - 1) (length values.old))) }
     ensures takes { 0 < slice_index_or ranks.old (number - 1) 0
-        → value_at (texts_of values.old.items) (length values.old.items) ≢ Some (string_bytes text)
-        → (values.new.items ≡ values.old.items ++ text ∷ [])
-        × (ranks.new ≡ set ranks.old (number - 1) (suc (length values.old.items))) }
-    ensures capacity { vec_capacity values.new ≡ vec_capacity values.old }
+        → value_at values.old (length values.old) ≢ Some text.now
+        → OnOk result ((values.new ≡ values.old ++ text.now ∷ [])
+        × (ranks.new ≡ set ranks.old (number - 1) (suc (length values.old)))) }
 {
     let place = number as usize - 1;
     if ranks[place] == 0 {
-        return;
+        return Ok(());
     }
-    if !is_text(last_of(values), &text) {
-        values.push_reserved(text);
+    if !is_text(last_of(values), text) {
+        values.push(text)?;
     }
     ranks[place] = values.len() as u32;
+    Ok(())
 }
 
-// Puts the texts after the values, each once, those with a mark.
-fn place(entries: Vec<(String, u32)>, values: &mut Vec<String>, ranks: &mut [u32])
-    requires within { All (λ entry. (1 ≤ entry.1) × (entry.1 ≤ length ranks.old)) entries.items }
-    requires none { values.old.items ≡ [] }
-    requires room { length entries.items ≤ vec_capacity values.old }
-    requires fits { length entries.items < 2 ^ 32 }
+// The texts, each once, those with a mark. Their places go over the marks.
+fn place(alloc: Global, entries: &[(String, u32)], ranks: &mut [u32]) -> Result<Texts, AllocError>
+    requires within { All (λ entry. (1 ≤ entry.1) × (entry.1 ≤ length ranks.old)) entries.now }
+    requires fits { length entries.now < 2 ^ 32 }
     ensures len { length ranks.new ≡ length ranks.old }
-    ensures places { (texts : List (List ℕ)) (codes : List ℕ) → HavePlaces texts codes entries.items [] ranks.old
-        → HavePlaces texts codes [] (texts_of values.new.items) ranks.new }
+    ensures places { IfOk result (λ values. (texts : List (List ℕ)) (codes : List ℕ)
+        → HavePlaces texts codes entries.now [] ranks.old → HavePlaces texts codes [] values ranks.new) }
 {
-    for (text, number) in entries {
-        place_one(text, number, values, ranks);
+    let mut values = Texts::new(alloc);
+    for entry in entries {
+        place_one(entry.0.as_str(), entry.1, &mut values, ranks)?;
     }
+    Ok(values)
 }
 
 fn rank_one(code: u32, ranks: &[u32]) -> u32
@@ -246,25 +218,24 @@ fn rank(codes: &mut [u32], ranks: &[u32])
     }
 }
 
-// Takes the texts that codes stand for out to the values, in order. The codes become those among the values.
+// The texts that the codes stand for, in order. The codes become those among these texts.
 fn put_in_order(
+    alloc: Global,
     mut entries: Vec<(String, u32)>,
-    values: &mut Vec<String>,
     ranks: &mut [u32],
     codes: &mut [u32],
-)
+) -> Result<Texts, AllocError>
     requires numbers { AreNumbered entries.items }
     requires within { All (λ code. code ≤ length (texts_in entries.items)) codes.old }
-    requires none { values.old.items ≡ [] }
-    requires room { length entries.items ≤ vec_capacity values.old }
     requires long { length ranks.old ≡ length entries.items }
     requires fits { length entries.items < 2 ^ 32 }
     requires zero { All (λ rank. rank ≡ 0) ranks.old }
-    ensures places { HavePlaces (texts_in entries.items) codes.old [] (texts_of values.new.items) ranks.new }
-    ensures codes { codes.new ≡ map (code_by_rank ranks.new) codes.old }
+    ensures { IfOk result (λ values. HavePlaces (texts_in entries.items) codes.old [] values ranks.new
+        × (codes.new ≡ map (code_by_rank ranks.new) codes.old)) }
 {
     mark(codes, ranks);
     entries.sort_unstable();
-    place(entries, values, ranks);
+    let values = place(alloc, &entries, ranks)?;
     rank(codes, ranks);
+    Ok(values)
 }
