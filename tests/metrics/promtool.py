@@ -20,8 +20,8 @@ def texts():
     source = open(f'{TOP}/crates/druid_device_tests/src/metrics.rt').read()
     found = re.findall(r'const (OF_\w+): &str =\s*"((?:[^"\\]|\\.)*)";', source)
     unescape = lambda text: re.sub(r'\\(.)', lambda it: {'n': '\n'}.get(it[1], it[1]), text)
-    if len(found) < 3:
-        sys.exit('crates/druid_device_tests has fewer than three such texts: of a server, a node and a broker')
+    if len(found) < 4:
+        sys.exit('crates/druid_device_tests has fewer than four such texts: of connections, a node, a broker and durations')
     return [(name, unescape(text)) for name, text in found]
 
 

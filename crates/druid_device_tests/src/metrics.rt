@@ -1,24 +1,26 @@
 //! What servers count, and its text.
 use druid_telemetry_metrics::{
-    Family, FollowMeter, Histogram, Kind, Label, Meter, NodeState, Number, ROUTES, Route, STATUSES,
-    Sample, broker_families, bucket_of, cell_of, metrics_response, node_families, render,
-    route_of_head, server_families, server_histogram, status_at, status_place,
+    Family, FollowMeter, Kind, Label, Meter, NodeState, Number, ROUTES, Route, STATUSES, Sample,
+    broker_page, bucket_of, cell_of, metrics_response, node_page, render, route_of_head,
+    status_place, status_text,
 };
 use std::alloc::Global;
 use std::process::Abort;
 use std::str;
 
-// Asserts that a text is that of families and of histograms.
-fn assert_page(
-    rt: &impl Abort,
-    alloc: Global,
-    families: &[Family<'_>],
-    histograms: &[Histogram<'_>],
-    wanted: &str,
-) {
-    let page = render(alloc, families, histograms).expect(rt, "memory");
-    let page = str::from_utf8(&page).expect(rt, "a text");
-    assert!(rt; page == wanted, "{page}");
+// Asserts that a page is these texts, one after another.
+fn assert_page(rt: &impl Abort, page: &[u8], wanted: &[&str]) {
+    let mut rest = str::from_utf8(page).expect(rt, "a text");
+    for part in wanted {
+        rest = match rest.strip_prefix(*part) {
+            Some(after) => after,
+            None => {
+                assert!(rt; false, "{part} is not where this begins: {rest}");
+                rest
+            }
+        };
+    }
+    assert!(rt; rest.is_empty(), "{rest}");
 }
 
 // What a server counted: two queries and what was no request.
@@ -36,62 +38,57 @@ fn counted(rt: &impl Abort, alloc: Global) -> Meter {
 }
 
 // (tests/metrics/promtool.py reads this text, and has promtool look at it.)
-const OF_A_SERVER: &str = "# HELP druid_cluster_connections_total Connections that were taken.
+const OF_CONNECTIONS: &str = "# HELP druid_cluster_connections_total Connections that were taken.
 # TYPE druid_cluster_connections_total counter
-druid_cluster_connections_total{server=\"broker:0\"} 3
+druid_cluster_connections_total{server=\"s0\"} 3
 # HELP druid_cluster_answers_total Connections that ended, by route and by the status that was written.
 # TYPE druid_cluster_answers_total counter
-druid_cluster_answers_total{server=\"broker:0\",route=\"query\",status=\"200\"} 1
-druid_cluster_answers_total{server=\"broker:0\",route=\"query\",status=\"503\"} 1
-druid_cluster_answers_total{server=\"broker:0\",route=\"other\",status=\"none\"} 1
+druid_cluster_answers_total{server=\"s0\",route=\"query\",status=\"200\"} 1
+druid_cluster_answers_total{server=\"s0\",route=\"query\",status=\"503\"} 1
+druid_cluster_answers_total{server=\"s0\",route=\"other\",status=\"none\"} 1
 # HELP druid_cluster_written_bytes_total Bytes that were written to connections.
 # TYPE druid_cluster_written_bytes_total counter
-druid_cluster_written_bytes_total{server=\"broker:0\"} 127
-# HELP druid_cluster_answer_seconds How long connections took, from their first byte to their last.
-# TYPE druid_cluster_answer_seconds histogram
-druid_cluster_answer_seconds_bucket{server=\"broker:0\",le=\"0.001000\"} 1
-druid_cluster_answer_seconds_bucket{server=\"broker:0\",le=\"0.005000\"} 2
-druid_cluster_answer_seconds_bucket{server=\"broker:0\",le=\"0.010000\"} 2
-druid_cluster_answer_seconds_bucket{server=\"broker:0\",le=\"0.025000\"} 2
-druid_cluster_answer_seconds_bucket{server=\"broker:0\",le=\"0.050000\"} 2
-druid_cluster_answer_seconds_bucket{server=\"broker:0\",le=\"0.100000\"} 2
-druid_cluster_answer_seconds_bucket{server=\"broker:0\",le=\"0.250000\"} 2
-druid_cluster_answer_seconds_bucket{server=\"broker:0\",le=\"0.500000\"} 2
-druid_cluster_answer_seconds_bucket{server=\"broker:0\",le=\"1.000000\"} 2
-druid_cluster_answer_seconds_bucket{server=\"broker:0\",le=\"2.500000\"} 2
-druid_cluster_answer_seconds_bucket{server=\"broker:0\",le=\"5.000000\"} 2
-druid_cluster_answer_seconds_bucket{server=\"broker:0\",le=\"10.000000\"} 2
-druid_cluster_answer_seconds_bucket{server=\"broker:0\",le=\"30.000000\"} 2
-druid_cluster_answer_seconds_bucket{server=\"broker:0\",le=\"+Inf\"} 3
-druid_cluster_answer_seconds_sum{server=\"broker:0\"} 30.005001
-druid_cluster_answer_seconds_count{server=\"broker:0\"} 3
+druid_cluster_written_bytes_total{server=\"s0\"} 127
 ";
 
-#[test]
-fn page_of_a_server(rt: HostRuntime) {
-    let alloc = rt.alloc();
-    let readings = counted(&rt, alloc).read(alloc).expect(&rt, "memory");
-    let families = server_families(alloc, "broker:0", &readings).expect(&rt, "memory");
-    let histogram = server_histogram(alloc, "broker:0", &readings).expect(&rt, "memory");
-    assert_page(&rt, alloc, &families, &[histogram], OF_A_SERVER);
-}
+// (tests/metrics/promtool.py reads this text too.)
+const OF_DURATIONS: &str =
+    "# HELP druid_cluster_answer_seconds How long connections took, from their first byte to their last.
+# TYPE druid_cluster_answer_seconds histogram
+druid_cluster_answer_seconds_bucket{server=\"s0\",le=\"0.001000\"} 1
+druid_cluster_answer_seconds_bucket{server=\"s0\",le=\"0.005000\"} 2
+druid_cluster_answer_seconds_bucket{server=\"s0\",le=\"0.010000\"} 2
+druid_cluster_answer_seconds_bucket{server=\"s0\",le=\"0.025000\"} 2
+druid_cluster_answer_seconds_bucket{server=\"s0\",le=\"0.050000\"} 2
+druid_cluster_answer_seconds_bucket{server=\"s0\",le=\"0.100000\"} 2
+druid_cluster_answer_seconds_bucket{server=\"s0\",le=\"0.250000\"} 2
+druid_cluster_answer_seconds_bucket{server=\"s0\",le=\"0.500000\"} 2
+druid_cluster_answer_seconds_bucket{server=\"s0\",le=\"1.000000\"} 2
+druid_cluster_answer_seconds_bucket{server=\"s0\",le=\"2.500000\"} 2
+druid_cluster_answer_seconds_bucket{server=\"s0\",le=\"5.000000\"} 2
+druid_cluster_answer_seconds_bucket{server=\"s0\",le=\"10.000000\"} 2
+druid_cluster_answer_seconds_bucket{server=\"s0\",le=\"30.000000\"} 2
+druid_cluster_answer_seconds_bucket{server=\"s0\",le=\"+Inf\"} 3
+druid_cluster_answer_seconds_sum{server=\"s0\"} 30.005001
+druid_cluster_answer_seconds_count{server=\"s0\"} 3
+";
 
 // (tests/metrics/promtool.py reads this text too.)
 const OF_A_NODE: &str = "# HELP druid_cluster_node_incarnation The incarnation of the node.
 # TYPE druid_cluster_node_incarnation gauge
-druid_cluster_node_incarnation{server=\"n0\"} 3
+druid_cluster_node_incarnation{server=\"s0\"} 3
 # HELP druid_cluster_node_changes The count of the node's mark: its loads and drops in this incarnation.
 # TYPE druid_cluster_node_changes gauge
-druid_cluster_node_changes{server=\"n0\"} 12
-# HELP druid_cluster_node_segments Segments that the node holds, tombstones among them.
+druid_cluster_node_changes{server=\"s0\"} 12
+# HELP druid_cluster_node_segments Segments that the node loaded and did not drop.
 # TYPE druid_cluster_node_segments gauge
-druid_cluster_node_segments{server=\"n0\"} 10
+druid_cluster_node_segments{server=\"s0\"} 10
 # HELP druid_cluster_node_rows Rows of the segments that the node holds.
 # TYPE druid_cluster_node_rows gauge
-druid_cluster_node_rows{server=\"n0\"} 70000
+druid_cluster_node_rows{server=\"s0\"} 70000
 # HELP druid_cluster_node_file_bytes Bytes of the segment files that the node holds.
 # TYPE druid_cluster_node_file_bytes gauge
-druid_cluster_node_file_bytes{server=\"n0\"} 16777216
+druid_cluster_node_file_bytes{server=\"s0\"} 16777216
 ";
 
 #[test]
@@ -103,28 +100,30 @@ fn page_of_a_node(rt: HostRuntime) {
         rows: 70_000,
         bytes: 16_777_216,
     };
-    let families = node_families(rt.alloc(), "n0", &state).expect(&rt, "memory");
-    assert_page(&rt, rt.alloc(), &families, &[], OF_A_NODE);
+    let alloc = rt.alloc();
+    let readings = counted(&rt, alloc).read(alloc).expect(&rt, "memory");
+    let page = node_page(alloc, "s0", &readings, &state).expect(&rt, "memory");
+    assert_page(&rt, &page, &[OF_CONNECTIONS, OF_A_NODE, OF_DURATIONS]);
 }
 
 // (tests/metrics/promtool.py reads this text too.)
 const OF_A_BROKER: &str =
     "# HELP druid_cluster_turns_total Turns with a node that is followed, by how they ended.
 # TYPE druid_cluster_turns_total counter
-druid_cluster_turns_total{server=\"broker:0\",node=\"n0\",end=\"Moved\"} 5
-druid_cluster_turns_total{server=\"broker:0\",node=\"n0\",end=\"K9\"} 1
+druid_cluster_turns_total{server=\"s0\",node=\"n0\",end=\"Moved\"} 5
+druid_cluster_turns_total{server=\"s0\",node=\"n0\",end=\"K9\"} 1
 # HELP druid_cluster_exchanges_total Exchanges with a node, of turns and of queries, by how they ended.
 # TYPE druid_cluster_exchanges_total counter
-druid_cluster_exchanges_total{server=\"broker:0\",node=\"n0\",end=\"X8\"} 2
+druid_cluster_exchanges_total{server=\"s0\",node=\"n0\",end=\"X8\"} 2
 # HELP druid_cluster_followed_incarnation The incarnation of the mark that is held of a node, 0 where it was never synced.
 # TYPE druid_cluster_followed_incarnation gauge
-druid_cluster_followed_incarnation{server=\"broker:0\",node=\"n0\"} 3
+druid_cluster_followed_incarnation{server=\"s0\",node=\"n0\"} 3
 # HELP druid_cluster_followed_changes The count of the mark that is held of a node.
 # TYPE druid_cluster_followed_changes gauge
-druid_cluster_followed_changes{server=\"broker:0\",node=\"n0\"} 12
+druid_cluster_followed_changes{server=\"s0\",node=\"n0\"} 12
 # HELP druid_cluster_followed_heard_timestamp_seconds When a turn with a node last did not fail, in seconds since 1970; 0 where none has.
 # TYPE druid_cluster_followed_heard_timestamp_seconds gauge
-druid_cluster_followed_heard_timestamp_seconds{server=\"broker:0\",node=\"n0\"} 1714642200.250000
+druid_cluster_followed_heard_timestamp_seconds{server=\"s0\",node=\"n0\"} 1714642200.250000
 ";
 
 #[test]
@@ -144,8 +143,9 @@ fn page_of_a_broker(rt: HostRuntime) {
         exchanges.push(count).expect(&rt, "memory");
     }
     let followed = [meter.read(alloc, "n0", exchanges).expect(&rt, "memory")];
-    let families = broker_families(alloc, "broker:0", &followed).expect(&rt, "memory");
-    assert_page(&rt, alloc, &families, &[], OF_A_BROKER);
+    let readings = counted(&rt, alloc).read(alloc).expect(&rt, "memory");
+    let page = broker_page(alloc, "s0", &readings, &followed).expect(&rt, "memory");
+    assert_page(&rt, &page, &[OF_CONNECTIONS, OF_A_BROKER, OF_DURATIONS]);
 }
 
 // A family of a sample with a label of that value, and one without a label.
@@ -165,8 +165,10 @@ fn escaped_texts(rt: HostRuntime) {
     let family = labelled(&rt, rt.alloc(), "a \"b\" \\ c\nd", "a \"b\" \\ c\nd");
     let wanted =
         "# HELP f a \"b\" \\\\ c\\nd\n# TYPE f gauge\nf{l=\"a \\\"b\\\" \\\\ c\\nd\"} 0.000001\nf 18446744073709551615\n";
-    assert_page(&rt, rt.alloc(), &[family], &[], wanted);
-    assert_page(&rt, rt.alloc(), &[], &[], "");
+    let text = render(rt.alloc(), &[family], &[]).expect(&rt, "memory");
+    assert_page(&rt, &text, &[wanted]);
+    let none = render(rt.alloc(), &[], &[]).expect(&rt, "memory");
+    assert!(&rt; none.is_empty());
 }
 
 #[test]
@@ -198,8 +200,10 @@ fn places(rt: HostRuntime) {
     for place in 0..ROUTES.len() {
         assert!(&rt; ROUTES[place].place() == place);
     }
+    let texts = ["200", "400", "404", "405", "500", "503", "none"];
     for place in 0..STATUSES.len() {
-        assert!(&rt; status_place(status_at(place)) == place);
+        let status = STATUSES[place];
+        assert!(&rt; status_place(status) == place && status_text(status) == texts[place]);
     }
     assert!(&rt; status_place(Some(302)) == 6 && cell_of(Route::Query, Some(405)) == 17);
     for (micros, bucket) in [

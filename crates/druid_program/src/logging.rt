@@ -1,4 +1,7 @@
 //! The log of the program, and the thread that writes it.
+ghost use Rattle.std.specs.Prelude.{◌≡◌, IfOk};
+ghost use Rattle.druid_telemetry_log.specs.Levels.{level_of_text};
+
 use druid_serve_base::DeviceFailed;
 use druid_telemetry_log::{Level, Lines, Log, open, write_lines};
 use std::alloc::Global;
@@ -36,7 +39,9 @@ fn start_writer<
 pub fn start_log<
     R: Wait + Threads + Clock + Copy + Send + Sync + 'static,
     E: Write + Drop + Send + 'static,
->(rt: &R, alloc: Global, level: &str, out: E) -> Result<Arc<Log, Global>, DeviceFailed> {
+>(rt: &R, alloc: Global, level: &str, out: E) -> Result<Arc<Log, Global>, DeviceFailed>
+    ensures { IfOk result (λ log. log.value.level ≡ level_of_text level.now) }
+{
     let (log, lines) = open(alloc, Level::of_text(level))?;
     if let Some(lines) = lines {
         start_writer(rt, alloc, lines, out)?;

@@ -8,8 +8,8 @@ use druid_serve_base::{Status, Telemetry, serve_status_one};
 use druid_serve_node::Reporter;
 use druid_telemetry_log::{Event, Level, Log, Refusals, line_of, open};
 use druid_telemetry_metrics::{
-    Counts, FollowMeter, Meter, NodeMeter, NodeState, Readings, Route, broker_families,
-    metrics_response, node_families, render, server_families, server_histogram,
+    Counts, Family, FollowMeter, Histogram, Kind, Meter, NodeMeter, NodeState, Readings, Route,
+    broker_page, metrics_response, node_page, render,
 };
 use druid_time::Instant;
 use std::alloc::{AllocError, Global};
@@ -65,23 +65,7 @@ fn meters(rt: &impl Abort, alloc: Global) {
     );
 }
 
-fn of_a_server(rt: &impl Abort, alloc: Global, readings: &Readings) {
-    begin(rt, alloc);
-    let families = end(rt, alloc, server_families(alloc, "n0", readings));
-    assert_call(rt, "server_families", has_count(&families, 3));
-    begin(rt, alloc);
-    let histogram = end(rt, alloc, server_histogram(alloc, "n0", readings));
-    assert_call(
-        rt,
-        "server_histogram",
-        match &histogram {
-            Ok(histogram) => histogram.spreads().len() == 1,
-            Err(AllocError) => true,
-        },
-    );
-}
-
-fn of_nodes(rt: &impl Abort, alloc: Global) {
+fn of_a_node(rt: &impl Abort, alloc: Global, readings: &Readings) {
     let state = NodeState {
         incarnation: 1,
         changes: 2,
@@ -89,9 +73,13 @@ fn of_nodes(rt: &impl Abort, alloc: Global) {
         rows: 4,
         bytes: 5,
     };
+    let whole = node_page(alloc, "n0", readings, &state).expect(rt, "memory");
     begin(rt, alloc);
-    let families = end(rt, alloc, node_families(alloc, "n0", &state));
-    assert_call(rt, "node_families", has_count(&families, 5));
+    let page = end(rt, alloc, node_page(alloc, "n0", readings, &state));
+    assert_call(rt, "node_page", has_count(&page, whole.len()));
+}
+
+fn of_a_broker(rt: &impl Abort, alloc: Global, readings: &Readings) {
     begin(rt, alloc);
     let made = end(rt, alloc, FollowMeter::new(alloc));
     assert_call(
@@ -116,14 +104,15 @@ fn of_nodes(rt: &impl Abort, alloc: Global) {
             .read(alloc, "n0", Vec::new(alloc))
             .expect(rt, "memory"),
     ];
+    let whole = broker_page(alloc, "b", readings, &followed).expect(rt, "memory");
     begin(rt, alloc);
-    let families = end(rt, alloc, broker_families(alloc, "b", &followed));
-    assert_call(rt, "broker_families", has_count(&families, 5));
+    let page = end(rt, alloc, broker_page(alloc, "b", readings, &followed));
+    assert_call(rt, "broker_page", has_count(&page, whole.len()));
 }
 
-fn texts(rt: &impl Abort, alloc: Global, readings: &Readings) {
-    let families = server_families(alloc, "n0", readings).expect(rt, "memory");
-    let histograms = [server_histogram(alloc, "n0", readings).expect(rt, "memory")];
+fn texts(rt: &impl Abort, alloc: Global) {
+    let families = [Family::new("f", "What it is.", Kind::Gauge, Vec::new(alloc))];
+    let histograms = [Histogram::new("h", "How long.", Vec::new(alloc))];
     let whole = render(alloc, &families, &histograms).expect(rt, "memory");
     begin(rt, alloc);
     let text = end(rt, alloc, render(alloc, &families, &histograms));
@@ -180,9 +169,9 @@ fn of_metrics(rt: HostRuntime) {
     counts(&rt, alloc);
     meters(&rt, alloc);
     let readings = counted(&rt, alloc).read(alloc).expect(&rt, "memory");
-    of_a_server(&rt, alloc, &readings);
-    of_nodes(&rt, alloc);
-    texts(&rt, alloc, &readings);
+    of_a_node(&rt, alloc, &readings);
+    of_a_broker(&rt, alloc, &readings);
+    texts(&rt, alloc);
 }
 
 fn health(rt: &impl Abort, alloc: Global) {

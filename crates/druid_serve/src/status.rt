@@ -4,9 +4,7 @@ ghost use Rattle.std.specs.Prelude.{◌≡◌, true};
 use druid_link_health::{Counts, FAULTS, Health};
 use druid_segment_descriptor::NodeNo;
 use druid_serve_base::{Status, Telemetry};
-use druid_telemetry_metrics::{
-    Family, FollowMeter, Followed, broker_families, render, server_families, server_histogram,
-};
+use druid_telemetry_metrics::{FollowMeter, Followed, broker_page};
 use std::alloc::{AllocError, Global};
 use std::sync::Arc;
 
@@ -55,15 +53,9 @@ impl Status for BrokerStatus {
     ghost follows = { true };
 
     fn metrics(&self, alloc: Global) -> Result<Vec<u8>, AllocError> {
-        let name = self.telemetry.name();
         let readings = self.telemetry.read(alloc)?;
         let followed = self.followed(alloc)?;
-        let mut families: Vec<Family<'_>> = server_families(alloc, name, &readings)?;
-        for family in broker_families(alloc, name, &followed)? {
-            families.push(family)?;
-        }
-        let histograms = [server_histogram(alloc, name, &readings)?];
-        render(alloc, &families, &histograms)
+        broker_page(alloc, self.telemetry.name(), &readings, &followed)
     }
 
     fn is_loaded(&self) -> Option<bool> {

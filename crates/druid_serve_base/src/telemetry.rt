@@ -1,5 +1,6 @@
 //! What a server tells of its connections: counts, and lines of the log.
 ghost use Rattle.std.specs.Prelude.{◌≡◌, IfOk, string_bytes};
+ghost use Rattle.druid_telemetry_metrics.specs.Routes.{path_in, route_at};
 
 use druid_telemetry_log::{Event, Level, Log};
 use druid_telemetry_metrics::{Meter, Readings, Route, route_of_head};
@@ -18,7 +19,9 @@ pub struct Taken {
 
 impl Taken {
     // One whose first bytes are these, which came now.
-    fn new<C: Clock>(clock: &C, head: &[u8]) -> Taken {
+    fn new<C: Clock>(clock: &C, head: &[u8]) -> Taken
+        ensures { result.route ≡ route_at (path_in head.now) }
+    {
         Taken {
             route: route_of_head(head),
             since: Instant::now(clock).ok(),
@@ -54,7 +57,8 @@ impl Telemetry {
     ///
     /// Out of memory.
     pub fn new(alloc: Global, name: &str, log: &Arc<Log, Global>) -> Result<Telemetry, AllocError>
-        ensures { IfOk result (λ telemetry. string_bytes telemetry.name ≡ name.now) }
+        ensures name { IfOk result (λ telemetry. string_bytes telemetry.name ≡ name.now) }
+        ensures log { IfOk result (λ telemetry. telemetry.log.value ≡ log.now.value) }
     {
         Ok(Telemetry {
             name: String::from_str(alloc, name)?,
@@ -69,7 +73,8 @@ impl Telemetry {
     ///
     /// Out of memory.
     pub fn share(&self) -> Result<Telemetry, AllocError>
-        ensures { IfOk result (λ telemetry. string_bytes telemetry.name ≡ string_bytes self.now.name) }
+        ensures name { IfOk result (λ telemetry. string_bytes telemetry.name ≡ string_bytes self.now.name) }
+        ensures log { IfOk result (λ telemetry. telemetry.log.value ≡ self.now.log.value) }
     {
         Ok(Telemetry {
             name: self.name.clone()?,
@@ -86,7 +91,9 @@ impl Telemetry {
     }
 
     /// How much it logs.
-    pub fn level(&self) -> Level {
+    pub fn level(&self) -> Level
+        ensures { result ≡ self.now.log.value.level }
+    {
         self.log.level()
     }
 
@@ -122,9 +129,10 @@ impl Telemetry {
         }
     }
 
-    /// Counts a connection whose request was read whole, and notes when that came to a worker and what it asks for. Of these no contract
-    /// speaks, as of all that is counted here.
-    pub fn take_whole<C: Clock>(&self, clock: &C, request: &[u8]) -> Taken {
+    /// Counts a connection whose request was read whole, and notes when that came to a worker and what it asks for.
+    pub fn take_whole<C: Clock>(&self, clock: &C, request: &[u8]) -> Taken
+        ensures { result.route ≡ route_at (path_in request.now) }
+    {
         self.meter.take();
         Taken::new(clock, request)
     }

@@ -1,9 +1,9 @@
 -- What is known of files, kept in a map.
-use Rattle.std.proofs.Common.{◌≡◌, ℕ, zero, suc, ◌+◌, ◌<◌, ◌≤◌, ◌⊎◌, inl, inr, ◌||◌, List, [], ◌∷◌, length, map, get_or, true, false, cond, Option, Some, None, IsSome, is_some, refl, sym, ap, subst, ◌∙◌, string_bytes, arith}
+use Rattle.std.proofs.Common.{◌≡◌, ℕ, zero, suc, ◌+◌, ◌-◌, ◌^◌, ◌<◌, ◌≤◌, min, ◌⊎◌, inl, inr, ◌||◌, List, [], ◌∷◌, length, map, get_or, true, false, cond, Option, Some, None, IsSome, is_some, refl, sym, ap, subst, ◌∙◌, string_bytes, arith}
 use Rattle.std.specs.BTreeMap as tree
 use Rattle.std.specs.BTreeMap.{BTreeMap, is_at}
 use Rattle.std.specs.Cmp.Lexicographic.{slice_cmp}
-use Rattle.std.specs.List.{list_any}
+use Rattle.std.specs.List.{list_any, sum_by}
 use Rattle.std.specs.List.Sorted.{IsNonDecreasingBy, IsPartitionPoint, IsSortedBy}
 use Rattle.std.specs.Map.{lookup}
 use Rattle.std.specs.Ordering.{nat_cmp, is_eq, is_lt, ordering_index, ordering_reverse}
@@ -17,12 +17,14 @@ use Rattle.std.specs.Cmp.Lexicographic.{nat_list_eq_equiv}
 use Rattle.std.proofs.lemmas.Bool.{false≢true}
 use Rattle.std.proofs.lemmas.Cmp.{nat_list_cmp_total, ranked, by_ranked}
 use Rattle.std.proofs.lemmas.List.Recursion.{or_from_places}
+use Rattle.std.proofs.lemmas.List.Sums.{sum_by-cons}
 use Rattle.std.proofs.lemmas.List.{get_or-map, length-map}
 use Rattle.std.proofs.lemmas.List.Sorted.{searchable_from_sorted}
 use Rattle.std.proofs.lemmas.Map.Keys.{Less-from_sorted}
 use Rattle.druid_folder.specs.Folder.{AreInOrder, names_of}
 use Rattle.druid_serve_node.specs.Looks.{File, Notes, state_of, known_names}
-use Rattle.druid_serve_node.specs.Layout.{files_of}
+use Rattle.druid_serve_node.specs.Layout.{file_of, files_of}
+use Rattle.druid_serve_node.specs.Totals.{total}
 use Rattle.druid_serve_node.specs.declared.known.FileState.{FileState}
 
 -- what the map has at a name is what is known of that file
@@ -53,6 +55,27 @@ is_kept entries files name is some none =
 pub keys_named : (entries : List (String Global × FileState)) → names_of (map (λ e. e.0) entries) ≡ known_names (files_of entries)
 keys_named [] = refl
 keys_named (e ∷ entries) = ap (λ ns. string_bytes e.0 ∷ ns) (keys_named entries)
+
+-- ---- sums over what is known
+
+-- over the states of the map
+pub sums_of : (f : FileState → ℕ) (entries : List (String Global × FileState)) → sum_by f (map (λ e. e.1) entries) ≡ sum_by (λ file. f file.state) (files_of entries)
+sums_of f [] = refl
+sums_of f (e ∷ entries) =
+    sum_by-cons f e.1 (map (λ x. x.1) entries) ∙ ap (λ n. f e.1 + n) (sums_of f entries)
+    ∙ sym (sum_by-cons (λ (file : File). f file.state) (file_of e) (files_of entries))
+
+-- the values that are summed first
+pub sum_begun : (f : FileState → ℕ) (values : List FileState) (entries : List (String Global × FileState)) (files : List File)
+    → values ≡ map (λ e. e.1) entries → files_of entries ≡ files → min (0 + sum_by f values) (2 ^ 64 - 1) ≡ total f files
+sum_begun f values entries files given is =
+    let same : sum_by f values ≡ sum_by (λ (file : File). f file.state) files =
+    ap (sum_by f) given ∙ sums_of f entries ∙ ap (sum_by (λ (file : File). f file.state)) is in
+    omega (arith, same)
+
+-- where nothing is left to sum
+pub sum_ended : (f : FileState → ℕ) (left : List FileState) (n t : ℕ) → left ≡ [] → n ≤ 2 ^ 64 - 1 → min (n + sum_by f left) (2 ^ 64 - 1) ≡ t → n ≡ t
+sum_ended f left n t none fits is = omega (arith, fits, subst (λ vs. min (n + sum_by f vs) (2 ^ 64 - 1) ≡ t) none is)
 
 -- ---- names that a folder lists
 

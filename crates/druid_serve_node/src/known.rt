@@ -4,9 +4,12 @@ ghost use Rattle.std.specs.List.{list_any};
 ghost use Rattle.std.specs.Option.{option_copied};
 ghost use Rattle.druid_folder.specs.Folder.{AreInOrder, names_of};
 ghost use Rattle.druid_serve_node.specs.Files.{is_segment_file};
+ghost use Rattle.druid_serve_node.specs.Totals.{state_at};
 ghost use Rattle.druid_serve_node.specs.Looks.{Notes, state_of, loaded_of, is_due, due_names, gone_names, rest_after, refused_at};
 
 use druid_node::LoadedFile;
+use druid_segment_descriptor::Mark;
+use druid_telemetry_metrics::NodeState;
 use std::alloc::{AllocError, Global};
 use std::collections::BTreeMap;
 use std::marker::Model;
@@ -193,5 +196,28 @@ impl Known {
             }
         }
         Ok(gone)
+    }
+
+    /// What the node reports of its state at that mark: the segments that are loaded, their rows, and the bytes of their files.
+    pub(crate) fn node_state(&self, seen: Mark) -> NodeState
+        ensures { result ≡ state_at seen self.now }
+    {
+        let mut segments = 0_u64;
+        let mut rows = 0_u64;
+        let mut bytes = 0_u64;
+        for state in self.files.values() {
+            if let FileState::Loaded(file) = state {
+                segments = segments.saturating_add(1);
+                rows = rows.saturating_add(file.rows() as u64);
+                bytes = bytes.saturating_add(file.bytes() as u64);
+            }
+        }
+        NodeState {
+            incarnation: seen.incarnation(),
+            changes: seen.count(),
+            segments,
+            rows,
+            bytes,
+        }
     }
 }

@@ -79,7 +79,7 @@ fn look_on<R: Wait + Clock, F: Folder, I: Incarnation, J: Begun>(
         look = look.saturating_add(1);
         drop(watch.look(rt, alloc, node, folder, look, reporter));
         latest.note(rt, watch.seen());
-        reporter.note(watch.seen());
+        reporter.note(&watch.node_state());
     }
 }
 
@@ -128,7 +128,7 @@ fn load_from<
     // One that memory runs out for is passed over, as one that is refused.
     drop(watch.try_due(rt, &node, &mut folder, 0, &names, &mut reporter));
     latest.note(rt, watch.seen());
-    reporter.note(watch.seen());
+    reporter.note(&watch.node_state());
     end.give(rt, Tried(()));
     if let Some(rest) = rest {
         look_on(

@@ -388,7 +388,7 @@ fn ready_node<
     let loaded: LoadedNode<I> = load_node(rt, alloc, folder, state, threads, reporter)?;
     let mut seen = loaded.seen;
     place_tombstones(rt, &loaded.node, config.tombstones(), &mut seen)?;
-    loaded.reporter.note(seen);
+    loaded.reporter.note(&loaded.known.node_state(seen));
     let held = held_or_new(rt, config, held)?;
     ready_of(alloc, loaded, seen, held)
 }

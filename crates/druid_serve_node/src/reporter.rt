@@ -1,7 +1,5 @@
-//! What a node tells of the files of its folder: lines of the log, and the numbers of what it
-//! holds.
-use druid_node::{LoadedFile, NodeFault};
-use druid_segment_descriptor::Mark;
+//! What a node tells of the files of its folder, in lines of the log, and of its state.
+use druid_node::NodeFault;
 use druid_serve_base::Telemetry;
 use druid_telemetry_log::{Event, Level, Refusals, code_in};
 use druid_telemetry_metrics::{NodeMeter, NodeState};
@@ -9,22 +7,18 @@ use std::alloc::{AllocError, Global};
 use std::sync::{Arc, Wait};
 use std::time::Clock;
 
-/// Tells of each file that a node loads, refuses or lets go of, and notes how much the node holds. What is logged or noted no contract
-/// speaks of: queues and cells are not values.
+/// Tells of each file that a node loads, refuses or lets go of, and notes the node's state. What is logged or noted no contract speaks
+/// of: queues and cells are not values.
 #[derive(Drop)]
 pub struct Reporter {
     alloc: Global,
     telemetry: Telemetry,
     meter: Arc<NodeMeter, Global>,
     refusals: Refusals,
-    // The segments that were loaded and not dropped, their rows, and the bytes of their files.
-    segments: u64,
-    rows: u64,
-    bytes: u64,
 }
 
 impl Reporter {
-    /// That of a node which holds nothing.
+    /// One that has told nothing.
     ///
     /// # Errors
     ///
@@ -39,9 +33,6 @@ impl Reporter {
             telemetry,
             meter: Arc::try_clone(meter)?,
             refusals: Refusals::new(alloc),
-            segments: 0,
-            rows: 0,
-            bytes: 0,
         })
     }
 
@@ -50,11 +41,8 @@ impl Reporter {
     }
 
     // The segment of a file was loaded.
-    pub(crate) fn load<R: Wait + Clock>(&mut self, rt: &R, name: &str, file: &LoadedFile) {
+    pub(crate) fn load<R: Wait + Clock>(&mut self, rt: &R, name: &str) {
         self.refusals.forget(name);
-        self.segments = self.segments.saturating_add(1);
-        self.rows = self.rows.saturating_add(file.rows() as u64);
-        self.bytes = self.bytes.saturating_add(file.bytes() as u64);
         self.tell(rt, &Event::Loaded { file: name });
     }
 
@@ -73,30 +61,15 @@ impl Reporter {
     }
 
     // A file that is gone was let go of, and its segment was dropped, if one was loaded.
-    pub(crate) fn let_go<R: Wait + Clock>(
-        &mut self,
-        rt: &R,
-        name: &str,
-        file: Option<&LoadedFile>,
-    ) {
+    pub(crate) fn let_go<R: Wait + Clock>(&mut self, rt: &R, name: &str, was_loaded: bool) {
         self.refusals.forget(name);
-        let Some(file) = file else {
-            return;
-        };
-        self.segments = self.segments.saturating_sub(1);
-        self.rows = self.rows.saturating_sub(file.rows() as u64);
-        self.bytes = self.bytes.saturating_sub(file.bytes() as u64);
-        self.tell(rt, &Event::Dropped { file: name });
+        if was_loaded {
+            self.tell(rt, &Event::Dropped { file: name });
+        }
     }
 
-    // Notes how much the node holds, at its mark.
-    pub(crate) fn note(&self, mark: Mark) {
-        self.meter.note(&NodeState {
-            incarnation: mark.incarnation(),
-            changes: mark.count(),
-            segments: self.segments,
-            rows: self.rows,
-            bytes: self.bytes,
-        });
+    // Notes the state of the node.
+    pub(crate) fn note(&self, state: &NodeState) {
+        self.meter.note(state);
     }
 }

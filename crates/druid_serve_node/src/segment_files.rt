@@ -105,7 +105,7 @@ fn load_one<R: Wait + Clock, I: Incarnation>(
             return Err(StartFault::of_file(alloc, name, &fault));
         }
     };
-    reporter.load(rt, name, &loaded);
+    reporter.load(rt, name);
     if known.load(name, loaded).is_err() {
         return Err(StartFault::of_file(alloc, name, &NodeFault::Memory));
     }

@@ -6,6 +6,7 @@ ghost use Rattle.std.specs.List.{FoldsTo};
 ghost use Rattle.std.specs.declared.cmp.Ordering.TheVariants.{Greater};
 ghost use Rattle.druid_segment_descriptor.specs.Mark.{mark_cmp};
 ghost use Rattle.druid_folder.specs.Folder.{AreNames, names_of, faults_at, IsOwnFault};
+ghost use Rattle.druid_serve_node.specs.Totals.{state_at};
 ghost use Rattle.druid_serve_node.specs.Looks.{due_names, IsTried, IsGone, IsLook};
 
 use crate::known::Known;
@@ -13,6 +14,7 @@ use crate::reporter::Reporter;
 use druid_folder::{Folder, StoreFault};
 use druid_node::{DataNode, Incarnation};
 use druid_segment_descriptor::Mark;
+use druid_telemetry_metrics::NodeState;
 use std::alloc::{AllocError, Global};
 use std::marker::Model;
 use std::sync::Wait;
@@ -49,6 +51,13 @@ impl Watch {
         self.seen
     }
 
+    /// What the node reports of its state.
+    pub(crate) fn node_state(&self) -> NodeState
+        ensures { result ≡ state_at self.now.seen self.now.known }
+    {
+        self.known.node_state(self.seen)
+    }
+
     // Tries the file of that name at a look. It is noted as refused before, so that nothing has to be allocated once its segment is
     // loaded.
     fn try_file<R: Wait + Clock, F: Folder, I: Incarnation>(
@@ -70,7 +79,7 @@ impl Watch {
         known.refuse(look, name)?;
         match node.load_identified(rt, folder, name, seen) {
             Ok(file) => {
-                reporter.load(rt, name, &file);
+                reporter.load(rt, name);
                 known.take(name, file);
             }
             Err(fault) => reporter.refuse(rt, name, &fault),
@@ -143,12 +152,12 @@ impl Watch {
     {
         let Watch { known, seen } = self;
         let Some(file) = known.loaded(name) else {
-            reporter.let_go(rt, name, None);
+            reporter.let_go(rt, name, false);
             known.forget(name);
             return;
         };
         if node.drop_segment(rt, file.id(), seen).is_ok() {
-            reporter.let_go(rt, name, Some(file));
+            reporter.let_go(rt, name, true);
             known.forget(name);
         }
     }

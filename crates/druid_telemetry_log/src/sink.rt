@@ -1,9 +1,10 @@
 //! Lines on their way to a writer: a queue that is full before anybody waits, and the thread that
 //! writes what stands in it. The kit's `log` is not used: here an event is a value, whose line is
 //! exact.
-ghost use Rattle.std.specs.Prelude.{◌≡◌, ◌⊎◌, ◌++◌, List, ℕ};
+ghost use Rattle.std.specs.Prelude.{◌≡◌, ◌↔◌, ◌⊎◌, ◌++◌, List, ℕ, None, IfOk};
 ghost use Rattle.std.specs.Io.KnownBytes.{Appends};
 ghost use Rattle.druid_stream.specs.Fronts.{AppendsFront};
+ghost use Rattle.druid_telemetry_log.specs.declared.level.Level.TheVariants.{Off};
 
 use crate::event::Event;
 use crate::level::Level;
@@ -41,7 +42,10 @@ pub struct Lines {
 /// # Errors
 ///
 /// Out of memory.
-pub fn open(alloc: Global, level: Level) -> Result<(Log, Option<Lines>), AllocError> {
+pub fn open(alloc: Global, level: Level) -> Result<(Log, Option<Lines>), AllocError>
+    ensures level { IfOk result (λ opened. opened.0.level ≡ level) }
+    ensures lines { IfOk result (λ opened. (opened.1 ≡ None) ↔ (level ≡ Off)) }
+{
     let missed = Arc::new(alloc, AtomicU64::new(0))?;
     if level == Level::Off {
         let log = Log {

@@ -1,5 +1,6 @@
 pub mod Text
 pub mod Pieces
 pub mod Routes
+pub mod Families
 pub mod Response
 pub mod Counted

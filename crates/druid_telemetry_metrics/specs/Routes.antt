@@ -1,5 +1,5 @@
 -- Routes by their paths, and the cell in which an answer is counted.
-use Rattle.std.specs.Prelude.{ℕ, ◌+◌, ◌*◌, ◌==◌, ◌||◌, nat_lt, Bool, List, [], codes, length, take, drop, count_by, position, Option, Some, None, if◌then◌else◌}
+use Rattle.std.specs.Prelude.{ℕ, ◌+◌, ◌*◌, ◌==◌, ◌||◌, nat_lt, Bool, List, [], ◌∷◌, codes, length, take, drop, count_by, position, Option, Some, None, if◌then◌else◌}
 use Rattle.std.specs.Str.{bytes_eq}
 use Rattle.druid_telemetry_metrics.specs.declared.route.Route.{Route}
 use Rattle.druid_telemetry_metrics.specs.declared.route.Route.TheVariants.{Health, Metrics, Query, Datasources, LoadStatus, Segments, Inventory, Other}
@@ -67,10 +67,23 @@ abbrev pub status_place : Option ℕ → ℕ
 status_place None = 6
 status_place (Some n) = place_of_status n
 
+abbrev pub text_of_status : ℕ → List ℕ
+text_of_status n =
+    if n == 200 then codes "200" else if n == 400 then codes "400" else if n == 404 then codes "404" else if n == 405 then codes "405"
+    else if n == 500 then codes "500" else if n == 503 then codes "503" else codes "none"
+
+abbrev pub status_text : Option ℕ → List ℕ
+status_text None = codes "none"
+status_text (Some n) = text_of_status n
+
 -- the cell of a route and a status: no two have one
 abbrev pub cell_of : Route → Option ℕ → ℕ
 cell_of route status = 7 * route_place route + status_place status
 
+-- the bounds of the buckets of durations, in microseconds
+abbrev pub bounds : List ℕ
+bounds = 1000 ∷ 5000 ∷ 10000 ∷ 25000 ∷ 50000 ∷ 100000 ∷ 250000 ∷ 500000 ∷ 1000000 ∷ 2500000 ∷ 5000000 ∷ 10000000 ∷ 30000000 ∷ []
+
 -- the bucket of a duration: how many of the bounds it is above
-abbrev pub bucket_of : List ℕ → ℕ → ℕ
-bucket_of bounds micros = count_by (λ bound. nat_lt bound micros) bounds
+abbrev pub bucket_of : ℕ → ℕ
+bucket_of micros = count_by (λ bound. nat_lt bound micros) bounds

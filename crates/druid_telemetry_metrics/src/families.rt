@@ -1,10 +1,14 @@
-//! The families of a cluster's servers, out of what they counted. Which number stands in which
-//! family no contract could say of a cell: worked pages test it. Of 56 pairs of route and status a
-//! server uses a dozen, so those that are 0 are left out.
+//! The families of a cluster's servers, out of what they counted. Of 56 pairs of route and status
+//! a server uses a dozen, so those that are 0 are left out.
+ghost use Rattle.std.specs.Prelude.{◌≡◌, ◌++◌, ◌*◌, ◌-◌, ◌^◌, min, IfOk, OnOk, flat_map, map};
+ghost use Rattle.druid_telemetry_metrics.specs.declared.family.Number.TheVariants.{Whole, Micros};
+ghost use Rattle.druid_telemetry_metrics.specs.Families.{label, sample, counted_sample, family, single, answers_of, route_answers, server_families, buckets, server_histogram, node_families, ended, turn_ends, exchange_ends, followed_sample, broker_families};
+
 use crate::family::{Bucket, Family, Histogram, Kind, Label, Number, Sample, Spread};
-use crate::meter::{BOUNDS, Readings};
-use crate::route::{ROUTES, Route, STATUSES, status_at};
+use crate::meter::{BOUNDS, Readings, number_at};
+use crate::route::{ROUTES, Route, STATUSES, status_text};
 use std::alloc::{AllocError, Global};
+use std::marker::Model;
 
 /// How the turns of a broker with a node end, in the order of their places: what the reply made, or the fault.
 pub const TURN_ENDS: [&str; 11] = [
@@ -33,7 +37,7 @@ pub struct NodeState {
     pub incarnation: u64,
     /// The count of its mark.
     pub changes: u64,
-    /// The segments that it holds, tombstones among them.
+    /// The segments that it loaded and did not drop.
     pub segments: u64,
     /// Their rows.
     pub rows: u64,
@@ -58,43 +62,48 @@ pub struct Followed<'a> {
     pub exchanges: Vec<u64>,
 }
 
-// A sample with one label.
-fn one<'a>(alloc: Global, server: &'a str, number: Number) -> Result<Sample<'a>, AllocError> {
-    let mut labels = Vec::new(alloc);
-    labels.push(Label::new("server", server))?;
-    Ok(Sample::new(labels, number))
+impl<'a> Model for Followed<'a> {
+    ghost use Rattle.druid_telemetry_metrics.specs.Families as specs;
+
+    ghost Value = { specs.Followed };
+
+    ghost view = { λ a. record { node = a.node.now; incarnation = a.incarnation; changes = a.changes; heard = a.heard; turns = a.turns.items; exchanges = a.exchanges.items } };
 }
 
-// A sample with the label of the server and another.
-fn two<'a>(
+// A number of a server, with what else tells it apart: names and values of labels.
+fn sample<'a>(
     alloc: Global,
     server: &'a str,
-    name: &'a str,
-    value: &'a str,
+    others: &[(&'a str, &'a str)],
     number: Number,
-) -> Result<Sample<'a>, AllocError> {
+) -> Result<Sample<'a>, AllocError>
+    ensures { IfOk result (λ one. one ≡ sample server.now (map (λ p. label p.0.now p.1.now) others.now) number) }
+{
     let mut labels = Vec::new(alloc);
     labels.push(Label::new("server", server))?;
-    labels.push(Label::new(name, value))?;
+    for (name, value) in others {
+        labels.push(Label::new(name, value))?;
+    }
     Ok(Sample::new(labels, number))
 }
 
-// A sample with the label of the server and two others.
-fn three<'a>(
+// Puts a count of a server, where it is not 0.
+fn push_count<'a>(
     alloc: Global,
     server: &'a str,
-    first: (&'a str, &'a str),
-    second: (&'a str, &'a str),
-    number: Number,
-) -> Result<Sample<'a>, AllocError> {
-    let mut labels = Vec::new(alloc);
-    labels.push(Label::new("server", server))?;
-    labels.push(Label::new(first.0, first.1))?;
-    labels.push(Label::new(second.0, second.1))?;
-    Ok(Sample::new(labels, number))
+    others: &[(&'a str, &'a str)],
+    count: u64,
+    samples: &mut Vec<Sample<'a>>,
+) -> Result<(), AllocError>
+    ensures { OnOk result (samples.new.items ≡ samples.old.items ++ counted_sample server.now (map (λ p. label p.0.now p.1.now) others.now) count) }
+{
+    if count > 0 {
+        samples.push(sample(alloc, server, others, Number::Whole(count))?)?;
+    }
+    Ok(())
 }
 
-// A family of one sample.
+// A family of one number.
 fn single<'a>(
     alloc: Global,
     name: &'a str,
@@ -102,60 +111,62 @@ fn single<'a>(
     kind: Kind,
     server: &'a str,
     number: u64,
-) -> Result<Family<'a>, AllocError> {
+) -> Result<Family<'a>, AllocError>
+    ensures { IfOk result (λ one. one ≡ single name.now help.now kind server.now number) }
+{
     let mut samples = Vec::new(alloc);
-    samples.push(one(alloc, server, Number::Whole(number))?)?;
+    samples.push(sample(alloc, server, &[], Number::Whole(number))?)?;
     Ok(Family::new(name, help, kind, samples))
 }
 
-// The answers of a route, by status.
+// The answers of a route, by these statuses.
 fn push_answers<'a>(
     alloc: Global,
     server: &'a str,
     route: Route,
+    statuses: &[Option<u16>],
     readings: &Readings,
     samples: &mut Vec<Sample<'a>>,
-) -> Result<(), AllocError> {
-    for place in 0..STATUSES.len() {
-        let count = readings.answers(route, status_at(place));
-        if count > 0 {
-            let first = ("route", route.text());
-            let second = ("status", STATUSES[place]);
-            samples.push(three(alloc, server, first, second, Number::Whole(count))?)?;
-        }
+) -> Result<(), AllocError>
+    ensures { OnOk result (samples.new.items ≡ samples.old.items ++ flat_map (answers_of server.now readings.now.answers route) statuses.now) }
+{
+    for status in statuses {
+        let others = [("route", route.text()), ("status", status_text(*status))];
+        push_count(
+            alloc,
+            server,
+            &others,
+            readings.answers(route, *status),
+            samples,
+        )?;
     }
     Ok(())
 }
 
-// The answers of all routes.
-fn answers_family<'a>(
+// The answers of these routes.
+fn answers<'a>(
     alloc: Global,
     server: &'a str,
+    routes: &[Route],
     readings: &Readings,
-) -> Result<Family<'a>, AllocError> {
+) -> Result<Vec<Sample<'a>>, AllocError>
+    ensures { IfOk result (λ samples. samples.items ≡ flat_map (route_answers server.now readings.now.answers) routes.now) }
+{
     let mut samples = Vec::new(alloc);
-    for route in ROUTES {
-        push_answers(alloc, server, route, readings, &mut samples)?;
+    for route in routes {
+        push_answers(alloc, server, *route, &STATUSES, readings, &mut samples)?;
     }
-    Ok(Family::new(
-        "druid_cluster_answers_total",
-        "Connections that ended, by route and by the status that was written.",
-        Kind::Counter,
-        samples,
-    ))
+    Ok(samples)
 }
 
-/// What a server tells of its connections: `druid_cluster_connections_total`, `druid_cluster_answers_total` by route and status (of
-/// those that were not 0), and `druid_cluster_written_bytes_total`.
-///
-/// # Errors
-///
-/// Out of memory.
-pub fn server_families<'a>(
+// What a server tells of its connections.
+pub(crate) fn server_families<'a>(
     alloc: Global,
     server: &'a str,
     readings: &Readings,
-) -> Result<Vec<Family<'a>>, AllocError> {
+) -> Result<Vec<Family<'a>>, AllocError>
+    ensures { IfOk result (λ families. families.items ≡ server_families server.now readings.now) }
+{
     let mut families = Vec::new(alloc);
     families.push(single(
         alloc,
@@ -165,7 +176,12 @@ pub fn server_families<'a>(
         server,
         readings.connections(),
     )?)?;
-    families.push(answers_family(alloc, server, readings)?)?;
+    families.push(Family::new(
+        "druid_cluster_answers_total",
+        "Connections that ended, by route and by the status that was written.",
+        Kind::Counter,
+        answers(alloc, server, &ROUTES, readings)?,
+    ))?;
     families.push(single(
         alloc,
         "druid_cluster_written_bytes_total",
@@ -178,28 +194,29 @@ pub fn server_families<'a>(
 }
 
 // The buckets of durations.
-fn buckets_of(alloc: Global, readings: &Readings) -> Result<Vec<Bucket>, AllocError> {
+fn buckets_of(alloc: Global, durations: &[u64]) -> Result<Vec<Bucket>, AllocError>
+    ensures { IfOk result (λ found. found.items ≡ buckets durations.now) }
+{
     let mut buckets = Vec::new(alloc);
-    for place in 0..BOUNDS.len() {
-        buckets.push(Bucket::new(BOUNDS[place], readings.bucket(place)))?;
+    for (bound, count) in BOUNDS.iter().zip(durations) {
+        buckets.push(Bucket::new(*bound, *count))?;
     }
     Ok(buckets)
 }
 
-/// How long the answers of a server took: `druid_cluster_answer_seconds`.
-///
-/// # Errors
-///
-/// Out of memory.
-pub fn server_histogram<'a>(
+// How long the answers of a server took.
+pub(crate) fn server_histogram<'a>(
     alloc: Global,
     server: &'a str,
     readings: &Readings,
-) -> Result<Histogram<'a>, AllocError> {
+) -> Result<Histogram<'a>, AllocError>
+    ensures { IfOk result (λ one. one ≡ server_histogram server.now readings.now) }
+{
     let mut labels = Vec::new(alloc);
     labels.push(Label::new("server", server))?;
-    let buckets = buckets_of(alloc, readings)?;
-    let over = readings.bucket(BOUNDS.len());
+    let durations = readings.durations();
+    let buckets = buckets_of(alloc, durations)?;
+    let over = number_at(durations, BOUNDS.len());
     let mut spreads = Vec::new(alloc);
     spreads.push(Spread::new(labels, buckets, over, readings.micros()))?;
     Ok(Histogram::new(
@@ -209,17 +226,14 @@ pub fn server_histogram<'a>(
     ))
 }
 
-/// What a node tells of its state: `druid_cluster_node_incarnation`, `_node_changes`, `_node_segments`, `_node_rows` and
-/// `_node_file_bytes`.
-///
-/// # Errors
-///
-/// Out of memory.
-pub fn node_families<'a>(
+// What a node tells of its state.
+pub(crate) fn node_families<'a>(
     alloc: Global,
     server: &'a str,
     state: &NodeState,
-) -> Result<Vec<Family<'a>>, AllocError> {
+) -> Result<Vec<Family<'a>>, AllocError>
+    ensures { IfOk result (λ families. families.items ≡ node_families server.now state.now) }
+{
     let rows = [
         (
             "druid_cluster_node_incarnation",
@@ -233,7 +247,7 @@ pub fn node_families<'a>(
         ),
         (
             "druid_cluster_node_segments",
-            "Segments that the node holds, tombstones among them.",
+            "Segments that the node loaded and did not drop.",
             state.segments,
         ),
         (
@@ -254,88 +268,66 @@ pub fn node_families<'a>(
     Ok(families)
 }
 
-// The samples of a node, by the ends whose counts these are; of those that are not 0.
-fn push_ends<'a>(
+// What ended each way of a node; of those that are not 0.
+fn push_ended<'a>(
     alloc: Global,
     server: &'a str,
     node: &'a str,
-    ends: &'a [&'a str],
+    ends: &[&'a str],
     counts: &[u64],
     samples: &mut Vec<Sample<'a>>,
-) -> Result<(), AllocError> {
+) -> Result<(), AllocError>
+    ensures { OnOk result (samples.new.items ≡ samples.old.items ++ ended server.now node.now (map (λ end. end.now) ends.now) counts.now) }
+{
     for (end, count) in ends.iter().zip(counts) {
-        if *count > 0 {
-            let first = ("node", node);
-            let second = ("end", *end);
-            samples.push(three(alloc, server, first, second, Number::Whole(*count))?)?;
-        }
+        let others = [("node", node), ("end", *end)];
+        push_count(alloc, server, &others, *count, samples)?;
     }
     Ok(())
 }
 
 // The turns with nodes, by how they ended.
-fn turns_family<'a>(
+fn turns<'a>(
     alloc: Global,
     server: &'a str,
     nodes: &[Followed<'a>],
-) -> Result<Family<'a>, AllocError> {
+) -> Result<Vec<Sample<'a>>, AllocError>
+    ensures { IfOk result (λ samples. samples.items ≡ flat_map (λ f. ended server.now f.node turn_ends f.turns) nodes.now) }
+{
     let mut samples = Vec::new(alloc);
-    for node in nodes {
-        push_ends(
+    for followed in nodes {
+        push_ended(
             alloc,
             server,
-            node.node,
+            followed.node,
             &TURN_ENDS,
-            &node.turns,
+            &followed.turns,
             &mut samples,
         )?;
     }
-    Ok(Family::new(
-        "druid_cluster_turns_total",
-        "Turns with a node that is followed, by how they ended.",
-        Kind::Counter,
-        samples,
-    ))
+    Ok(samples)
 }
 
 // The exchanges with nodes, by how they ended.
-fn exchanges_family<'a>(
+fn exchanges<'a>(
     alloc: Global,
     server: &'a str,
     nodes: &[Followed<'a>],
-) -> Result<Family<'a>, AllocError> {
+) -> Result<Vec<Sample<'a>>, AllocError>
+    ensures { IfOk result (λ samples. samples.items ≡ flat_map (λ f. ended server.now f.node exchange_ends f.exchanges) nodes.now) }
+{
     let mut samples = Vec::new(alloc);
-    for node in nodes {
-        push_ends(
+    for followed in nodes {
+        push_ended(
             alloc,
             server,
-            node.node,
+            followed.node,
             &EXCHANGE_ENDS,
-            &node.exchanges,
+            &followed.exchanges,
             &mut samples,
         )?;
     }
-    Ok(Family::new(
-        "druid_cluster_exchanges_total",
-        "Exchanges with a node, of turns and of queries, by how they ended.",
-        Kind::Counter,
-        samples,
-    ))
-}
-
-// A gauge with a sample of each node.
-fn gauge_of<'a>(
-    alloc: Global,
-    name: &'a str,
-    help: &'a str,
-    server: &'a str,
-    rows: Vec<(&'a str, Number)>,
-) -> Result<Family<'a>, AllocError> {
-    let mut samples = Vec::new(alloc);
-    for (node, number) in rows {
-        samples.push(two(alloc, server, "node", node, number)?)?;
-    }
-    Ok(Family::new(name, help, Kind::Gauge, samples))
+    Ok(samples)
 }
 
 // The incarnations of the marks that are held.
@@ -343,18 +335,15 @@ fn incarnations<'a>(
     alloc: Global,
     server: &'a str,
     nodes: &[Followed<'a>],
-) -> Result<Family<'a>, AllocError> {
-    let mut rows = Vec::new(alloc);
-    for node in nodes {
-        rows.push((node.node, Number::Whole(node.incarnation)))?;
+) -> Result<Vec<Sample<'a>>, AllocError>
+    ensures { IfOk result (λ samples. samples.items ≡ map (followed_sample server.now (λ f. Whole f.incarnation)) nodes.now) }
+{
+    let mut samples = Vec::new(alloc);
+    for followed in nodes {
+        let node = [("node", followed.node)];
+        samples.push(sample(alloc, server, &node, Number::Whole(followed.incarnation))?)?;
     }
-    gauge_of(
-        alloc,
-        "druid_cluster_followed_incarnation",
-        "The incarnation of the mark that is held of a node, 0 where it was never synced.",
-        server,
-        rows,
-    )
+    Ok(samples)
 }
 
 // The counts of the marks that are held.
@@ -362,18 +351,15 @@ fn changes<'a>(
     alloc: Global,
     server: &'a str,
     nodes: &[Followed<'a>],
-) -> Result<Family<'a>, AllocError> {
-    let mut rows = Vec::new(alloc);
-    for node in nodes {
-        rows.push((node.node, Number::Whole(node.changes)))?;
+) -> Result<Vec<Sample<'a>>, AllocError>
+    ensures { IfOk result (λ samples. samples.items ≡ map (followed_sample server.now (λ f. Whole f.changes)) nodes.now) }
+{
+    let mut samples = Vec::new(alloc);
+    for followed in nodes {
+        let node = [("node", followed.node)];
+        samples.push(sample(alloc, server, &node, Number::Whole(followed.changes))?)?;
     }
-    gauge_of(
-        alloc,
-        "druid_cluster_followed_changes",
-        "The count of the mark that is held of a node.",
-        server,
-        rows,
-    )
+    Ok(samples)
 }
 
 // When the nodes were heard.
@@ -381,37 +367,60 @@ fn heard<'a>(
     alloc: Global,
     server: &'a str,
     nodes: &[Followed<'a>],
-) -> Result<Family<'a>, AllocError> {
-    let mut rows = Vec::new(alloc);
-    for node in nodes {
-        let micros = node.heard.saturating_mul(1_000);
-        rows.push((node.node, Number::Micros(micros)))?;
+) -> Result<Vec<Sample<'a>>, AllocError>
+    ensures { IfOk result (λ samples. samples.items ≡ map (followed_sample server.now (λ f. Micros (min (1000 * f.heard) (2 ^ 64 - 1)))) nodes.now) }
+{
+    let mut samples = Vec::new(alloc);
+    for followed in nodes {
+        let node = [("node", followed.node)];
+        samples.push(sample(
+            alloc,
+            server,
+            &node,
+            Number::Micros(followed.heard.saturating_mul(1_000)),
+        )?)?;
     }
-    gauge_of(
-        alloc,
-        "druid_cluster_followed_heard_timestamp_seconds",
-        "When a turn with a node last did not fail, in seconds since 1970; 0 where none has.",
-        server,
-        rows,
-    )
+    Ok(samples)
 }
 
-/// What a broker tells of the nodes that it follows: `druid_cluster_turns_total` and `druid_cluster_exchanges_total` by how they ended
-/// (of those that were not 0), `druid_cluster_followed_incarnation`, `_followed_changes` and `_followed_heard_timestamp_seconds`.
-///
-/// # Errors
-///
-/// Out of memory.
-pub fn broker_families<'a>(
+// What a broker tells of the nodes that it follows.
+pub(crate) fn broker_families<'a>(
     alloc: Global,
     server: &'a str,
     nodes: &[Followed<'a>],
-) -> Result<Vec<Family<'a>>, AllocError> {
+) -> Result<Vec<Family<'a>>, AllocError>
+    ensures { IfOk result (λ families. families.items ≡ broker_families server.now nodes.now) }
+{
     let mut families = Vec::new(alloc);
-    families.push(turns_family(alloc, server, nodes)?)?;
-    families.push(exchanges_family(alloc, server, nodes)?)?;
-    families.push(incarnations(alloc, server, nodes)?)?;
-    families.push(changes(alloc, server, nodes)?)?;
-    families.push(heard(alloc, server, nodes)?)?;
+    families.push(Family::new(
+        "druid_cluster_turns_total",
+        "Turns with a node that is followed, by how they ended.",
+        Kind::Counter,
+        turns(alloc, server, nodes)?,
+    ))?;
+    families.push(Family::new(
+        "druid_cluster_exchanges_total",
+        "Exchanges with a node, of turns and of queries, by how they ended.",
+        Kind::Counter,
+        exchanges(alloc, server, nodes)?,
+    ))?;
+    families.push(Family::new(
+        "druid_cluster_followed_incarnation",
+        "The incarnation of the mark that is held of a node, 0 where it was never synced.",
+        Kind::Gauge,
+        incarnations(alloc, server, nodes)?,
+    ))?;
+    families.push(Family::new(
+        "druid_cluster_followed_changes",
+        "The count of the mark that is held of a node.",
+        Kind::Gauge,
+        changes(alloc, server, nodes)?,
+    ))?;
+    families.push(Family::new(
+        "druid_cluster_followed_heard_timestamp_seconds",
+        "When a turn with a node last did not fail, in seconds since 1970; 0 where none has.",
+        Kind::Gauge,
+        heard(alloc, server, nodes)?,
+    ))?;
     Ok(families)
 }

@@ -1,5 +1,5 @@
 //! What a broker counts of a node that it follows.
-ghost use Rattle.std.specs.Prelude.{◌≡◌, ◌<◌, IfSome, length, position};
+ghost use Rattle.std.specs.Prelude.{◌≡◌, ◌<◌, IfOk, IfSome, length, position, vec_len};
 ghost use Rattle.std.specs.Str.{bytes_eq};
 
 use crate::families::{Followed, TURN_ENDS};
@@ -34,7 +34,9 @@ impl FollowMeter {
     /// # Errors
     ///
     /// Out of memory.
-    pub fn new(alloc: Global) -> Result<FollowMeter, AllocError> {
+    pub fn new(alloc: Global) -> Result<FollowMeter, AllocError>
+        ensures { IfOk result (λ meter. vec_len meter.turns.cells ≡ 11) }
+    {
         Ok(FollowMeter {
             turns: Counts::new(alloc, TURN_ENDS.len())?,
             held: Counts::new(alloc, 3)?,
@@ -75,7 +77,11 @@ impl FollowMeter {
         alloc: Global,
         node: &'a str,
         exchanges: Vec<u64>,
-    ) -> Result<Followed<'a>, AllocError> {
+    ) -> Result<Followed<'a>, AllocError>
+        ensures node { IfOk result (λ followed. followed.node ≡ node.now) }
+        ensures turns { IfOk result (λ followed. length followed.turns ≡ vec_len self.now.turns.cells) }
+        ensures exchanges { IfOk result (λ followed. followed.exchanges ≡ exchanges.items) }
+    {
         Ok(Followed {
             node,
             incarnation: self.held.number(INCARNATION),

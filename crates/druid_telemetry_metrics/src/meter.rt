@@ -1,9 +1,11 @@
 //! What a server counts while it answers, in cells that no writer waits for.
 ghost use Rattle.std.specs.Prelude.{◌≡◌, ◌+◌, ◌<◌, ◌≤◌, Some, IfOk, length, vec_len, slice_get};
+ghost use Rattle.druid_telemetry_metrics.specs.Families.{number_at};
 ghost use Rattle.druid_telemetry_metrics.specs.Routes.{cell_of, bucket_of};
 
 use crate::route::{Route, status_place};
 use std::alloc::{AllocError, Global};
+use std::marker::Model;
 use std::sync::atomic::{AtomicU64, Ordering};
 
 /// The bounds of the buckets of durations, in microseconds.
@@ -81,7 +83,7 @@ impl Counts {
 
 /// The bucket of a duration: how many of the bounds it is above.
 pub fn bucket_of(micros: u64) -> usize
-    ensures value { result ≡ bucket_of BOUNDS micros }
+    ensures value { result ≡ bucket_of micros }
     ensures few { result ≤ 13 }
 {
     BOUNDS.iter().filter(|bound| **bound < micros).count()
@@ -95,10 +97,16 @@ pub fn cell_of(route: Route, status: Option<u16>) -> usize
     7 * route.place() + status_place(status)
 }
 
+// The places of the sums: the connections that were taken, the bytes that were written, and the microseconds that answers took.
+const CONNECTIONS: usize = 0;
+
+const BYTES: usize = 1;
+
+const MICROS: usize = 2;
+
 /// What a server counts.
 #[derive(Drop)]
 pub struct Meter {
-    // The connections that were taken, the bytes that were written, and the microseconds that answers took.
     sums: Counts,
     // By route and status.
     answers: Counts,
@@ -112,7 +120,10 @@ impl Meter {
     /// # Errors
     ///
     /// Out of memory.
-    pub fn new(alloc: Global) -> Result<Meter, AllocError> {
+    pub fn new(alloc: Global) -> Result<Meter, AllocError>
+        ensures answers { IfOk result (λ meter. vec_len meter.answers.cells ≡ 56) }
+        ensures durations { IfOk result (λ meter. vec_len meter.durations.cells ≡ 14) }
+    {
         Ok(Meter {
             sums: Counts::new(alloc, 3)?,
             answers: Counts::new(alloc, 56)?,
@@ -122,14 +133,14 @@ impl Meter {
 
     /// Counts a connection, as it is taken.
     pub fn take(&self) {
-        self.sums.add(0, 1);
+        self.sums.add(CONNECTIONS, 1);
     }
 
     /// Counts what became of a connection: its route, the status that was written, if one was, how many bytes were, and how many
     /// microseconds it took from the first byte on.
     pub fn answer(&self, route: Route, status: Option<u16>, bytes: u64, micros: u64) {
-        self.sums.add(1, bytes);
-        self.sums.add(2, micros);
+        self.sums.add(BYTES, bytes);
+        self.sums.add(MICROS, micros);
         self.answers.add(cell_of(route, status), 1);
         self.durations.add(bucket_of(micros), 1);
     }
@@ -139,9 +150,14 @@ impl Meter {
     /// # Errors
     ///
     /// Out of memory.
-    pub fn read(&self, alloc: Global) -> Result<Readings, AllocError> {
+    pub fn read(&self, alloc: Global) -> Result<Readings, AllocError>
+        ensures answers { IfOk result (λ readings. length readings.answers ≡ vec_len self.now.answers.cells) }
+        ensures durations { IfOk result (λ readings. length readings.durations ≡ vec_len self.now.durations.cells) }
+    {
         Ok(Readings {
-            sums: self.sums.read(alloc)?,
+            connections: self.sums.number(CONNECTIONS),
+            bytes: self.sums.number(BYTES),
+            micros: self.sums.number(MICROS),
             answers: self.answers.read(alloc)?,
             durations: self.durations.read(alloc)?,
         })
@@ -151,39 +167,63 @@ impl Meter {
 /// What a server had counted when it was read.
 #[derive(Debug, Drop)]
 pub struct Readings {
-    sums: Vec<u64>,
+    connections: u64,
+    bytes: u64,
+    micros: u64,
+    // By the cell of their route and status.
     answers: Vec<u64>,
+    // By bucket.
     durations: Vec<u64>,
 }
 
+impl Model for Readings {
+    ghost use Rattle.druid_telemetry_metrics.specs.Families as specs;
+
+    ghost Value = { specs.Readings };
+
+    ghost view = { λ a. record { connections = a.connections; bytes = a.bytes; micros = a.micros; answers = a.answers.items; durations = a.durations.items } };
+}
+
 // The number at a place, 0 where there is none.
-fn number_at(numbers: &[u64], place: usize) -> u64 {
+pub(crate) fn number_at(numbers: &[u64], place: usize) -> u64
+    ensures { result ≡ number_at numbers.now place }
+{
     numbers.get(place).copied().unwrap_or(0)
 }
 
 impl Readings {
     /// The connections that were taken.
-    pub fn connections(&self) -> u64 {
-        number_at(&self.sums, 0)
+    pub fn connections(&self) -> u64
+        ensures { result ≡ self.now.connections }
+    {
+        self.connections
     }
 
     /// The bytes that were written.
-    pub fn bytes(&self) -> u64 {
-        number_at(&self.sums, 1)
+    pub fn bytes(&self) -> u64
+        ensures { result ≡ self.now.bytes }
+    {
+        self.bytes
     }
 
     /// The microseconds that answers took, together.
-    pub fn micros(&self) -> u64 {
-        number_at(&self.sums, 2)
+    pub fn micros(&self) -> u64
+        ensures { result ≡ self.now.micros }
+    {
+        self.micros
     }
 
     /// How often a route was answered with a status; no status where nothing was written.
-    pub fn answers(&self, route: Route, status: Option<u16>) -> u64 {
+    pub fn answers(&self, route: Route, status: Option<u16>) -> u64
+        ensures { result ≡ number_at self.now.answers (cell_of route status) }
+    {
         number_at(&self.answers, cell_of(route, status))
     }
 
-    /// How many answers a bucket of durations has, from 0; that at 13 took longer than the last bound.
-    pub fn bucket(&self, place: usize) -> u64 {
-        number_at(&self.durations, place)
+    /// How many answers each bucket of durations has; that after the last bound's took longer than it.
+    pub fn durations(&self) -> &[u64]
+        ensures { result.now ≡ self.now.durations }
+    {
+        &self.durations
     }
 }

@@ -1,6 +1,6 @@
 //! What the servers of a cluster are asked for, and with which status they answer.
 ghost use Rattle.std.specs.Prelude.{◌≡◌, ◌<◌, IfSome, None, length, position};
-ghost use Rattle.druid_telemetry_metrics.specs.Routes.{is_space, ends_path, front_to, after, path_in, route_at, route_text, route_place, status_place};
+ghost use Rattle.druid_telemetry_metrics.specs.Routes.{is_space, ends_path, front_to, after, path_in, route_at, route_text, route_place, status_place, status_text};
 
 /// What a request asks for, by its path.
 #[derive(Clone, Copy, Debug, PartialEq, Eq, Drop)]
@@ -35,8 +35,16 @@ pub const ROUTES: [Route; 8] = [
     Route::Other,
 ];
 
-/// The texts of the statuses, in the order of their places.
-pub const STATUSES: [&str; 7] = ["200", "400", "404", "405", "500", "503", "none"];
+/// The statuses that servers write, in the order of their places; None where none was written.
+pub const STATUSES: [Option<u16>; 7] = [
+    Some(200),
+    Some(400),
+    Some(404),
+    Some(405),
+    Some(500),
+    Some(503),
+    None,
+];
 
 impl Route {
     /// Its name, as a label has it.
@@ -167,18 +175,17 @@ pub fn status_place(status: Option<u16>) -> usize
     }
 }
 
-/// The status of a place, from 0; None at that of `none`, and past it.
-pub fn status_at(place: usize) -> Option<u16>
-    ensures place { place < 7 → status_place result ≡ place }
-    ensures past { 5 < place → result ≡ None }
+/// The text of a status, as a label has it: `none` where nothing was written, or another than servers write.
+pub fn status_text(status: Option<u16>) -> &'static str
+    ensures { result.now ≡ status_text status }
 {
-    match place {
-        0 => Some(200),
-        1 => Some(400),
-        2 => Some(404),
-        3 => Some(405),
-        4 => Some(500),
-        5 => Some(503),
-        _ => None,
+    match status {
+        Some(200) => "200",
+        Some(400) => "400",
+        Some(404) => "404",
+        Some(405) => "405",
+        Some(500) => "500",
+        Some(503) => "503",
+        _ => "none",
     }
 }
