@@ -23,7 +23,7 @@ DEVICE = 'reaches the system, whose own faults come first; by tests with a devic
 BY_REPLAY = 'by replay.py, over the built program'
 AT_START = 'opens a log, as log::open does, which is called, and starts a thread: only the program, at its start, makes it'
 # By these a call reports that memory ran out as a device that failed, or as a route that cannot be added.
-AS_DEVICE = {'DeviceFailed', 'Ending', 'InsertError', 'ReplayFault', 'StartFault', 'Stop'}
+AS_DEVICE = {'DeviceFailed', 'Ending', 'InsertError', 'ReplayFault', 'ReplayStop', 'StartFault', 'Stop'}
 LEFT_OUT = {
     'druid_query_slice_text::are_apart': BY_CALLER + 'read_subquery',
     'druid_query_slice_text::asked_list': BY_CALLER + 'read_subquery',

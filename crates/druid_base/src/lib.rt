@@ -2,18 +2,18 @@
 //! numbers in digits, and texts of which none stands twice.
 #![tactic(auto)]
 
-mod copying;
 mod distinct;
 mod fault;
 mod fields;
+mod json;
 mod number;
-mod parsing;
+mod text;
 
-pub use copying::copy_text;
 pub use distinct::{TextList, are_distinct, doubled_text};
 pub use fault::JsonFault;
 pub use fields::{
     are_texts, are_texts_or_null, limited_field, list_field, number_field, text_field, text_or_null,
 };
+pub use json::parse_json;
 pub use number::number_of;
-pub use parsing::parse_json;
+pub use text::copy_text;

@@ -1,4 +1,4 @@
-use crate::printing::{assert_printed, assert_reported, assert_rows, owned, printed};
+use crate::tables::{assert_printed, assert_reported, assert_rows, owned, printed};
 use druid_base::{JsonFault, copy_text, parse_json};
 use std::alloc::Global;
 use std::process::Abort;

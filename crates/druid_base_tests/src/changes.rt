@@ -1,5 +1,5 @@
-use crate::printing::{assert_printed, assert_reported, assert_rows, owned, printed};
 use crate::rows::{change, mark_reported, parsed, push_partition, push_partitions};
+use crate::tables::{assert_printed, assert_reported, assert_rows, owned, printed};
 use druid_segment_descriptor::{Ask, Body, Cause, Change, Descriptor, Mark, Reply};
 use druid_sync_history::{History, HistoryFault};
 use std::alloc::Global;

@@ -1,5 +1,5 @@
 //! Chunks of which segments are added and removed, and those that overlap a segment's.
-use crate::printing::assert_rows;
+use crate::tables::assert_rows;
 use crate::timeline::{descriptor, push_version};
 use druid_segment_descriptor::Descriptor;
 use druid_timeline_chunks::Chunks;

@@ -1,5 +1,5 @@
-use crate::printing::{assert_printed, assert_rows, owned, printed};
 use crate::script::{assert_answered, assert_run, assert_too_many, named, push_row};
+use crate::tables::{assert_printed, assert_rows, owned, printed};
 use druid_replay::ReplayFault;
 use druid_segment_descriptor::{Body, Reply};
 use druid_sync_text::{SyncFault, read_reply};

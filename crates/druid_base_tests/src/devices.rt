@@ -1,5 +1,5 @@
 //! Readers and writers that fail, that are interrupted, and that take a byte at a time.
-use crate::printing::{assert_rows, owned};
+use crate::tables::{assert_rows, owned};
 use druid_replay::{ReplayFault, replay};
 use std::alloc::Global;
 use std::fmt::Display;

@@ -1,6 +1,6 @@
-use crate::printing::{assert_printed, assert_reported, assert_rows, printed};
 use crate::rows::{change, descriptor, mark_reported, name, parsed, push_partitions};
 use crate::sweeps::assert_alike;
+use crate::tables::{assert_printed, assert_reported, assert_rows, printed};
 use druid_inventory::{ApplyFault, Inventory, InventoryFault, JoinFault, Outcome};
 use druid_segment_descriptor::{Cause, Change, Descriptor, Mark, NodeNo, Reply};
 use std::alloc::Global;

@@ -21,21 +21,19 @@ mod edit_bound;
 #[cfg(test)]
 mod edits;
 #[cfg(test)]
-mod explaining;
-#[cfg(test)]
-mod following;
-#[cfg(test)]
 mod inventory;
 #[cfg(test)]
-mod joining;
+mod joins;
 #[cfg(test)]
 mod members;
 #[cfg(test)]
 mod pages;
 #[cfg(test)]
-mod printing;
+mod replies_followed;
 #[cfg(test)]
 mod rows;
+#[cfg(test)]
+mod run_end;
 #[cfg(test)]
 mod script;
 #[cfg(test)]
@@ -48,6 +46,8 @@ mod sizes;
 mod sweeps;
 #[cfg(test)]
 mod sync;
+#[cfg(test)]
+mod tables;
 #[cfg(test)]
 mod time;
 #[cfg(test)]

@@ -1,5 +1,5 @@
-use crate::printing::{assert_reported, assert_rows};
 use crate::rows::{descriptor, name, parsed, push_partitions};
+use crate::tables::{assert_reported, assert_rows};
 use druid_inventory::{Assembly as Replies, Inventory};
 use druid_segment_descriptor::{Ask, Body, Change, Descriptor, MAX_PAGE, Mark, Reply};
 use druid_sync_history::History;

@@ -1,5 +1,5 @@
-use crate::printing::{assert_printed, assert_reported, assert_rows, printed};
 use crate::rows::{name, parsed, segment};
+use crate::tables::{assert_printed, assert_reported, assert_rows, printed};
 use druid_segment_id::{IdFault, Name, SegmentId, Version};
 use std::alloc::Global;
 use std::process::Abort;

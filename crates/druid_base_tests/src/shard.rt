@@ -1,5 +1,5 @@
-use crate::printing::{assert_printed, assert_reported, assert_rows, owned, printed};
 use crate::rows::first_segments;
+use crate::tables::{assert_printed, assert_reported, assert_rows, owned, printed};
 use druid_segment_descriptor::{Descriptor, Mark, Reply, ReplyFault};
 use druid_segment_text::{ShardFault, descriptor_value, read_descriptor};
 use serde_json::Value;

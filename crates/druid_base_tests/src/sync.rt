@@ -1,4 +1,4 @@
-use crate::printing::{assert_printed, assert_reported, assert_rows, owned, printed};
+use crate::tables::{assert_printed, assert_reported, assert_rows, owned, printed};
 use druid_segment_descriptor::{Ask, Mark, Reply};
 use druid_sync_text::{AskFault, SyncFault, ask_target, read_ask, read_reply, reply_text};
 use std::alloc::Global;

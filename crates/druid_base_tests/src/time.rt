@@ -1,5 +1,5 @@
-use crate::printing::{assert_rows, owned, printed};
 use crate::rows::{interval, parsed};
+use crate::tables::{assert_rows, owned, printed};
 use druid_time::{Granularity, Instant, Interval, IntervalSet};
 use std::alloc::Global;
 use std::process::Abort;

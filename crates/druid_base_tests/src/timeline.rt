@@ -1,5 +1,5 @@
-use crate::printing::{assert_printed, assert_reported, assert_rows, printed};
 use crate::rows::{interval, name, parsed, segment};
+use crate::tables::{assert_printed, assert_reported, assert_rows, printed};
 use druid_segment_descriptor::Descriptor;
 use druid_segment_id::{GroupKey, Meter};
 use druid_time::IntervalSet;

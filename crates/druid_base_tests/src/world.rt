@@ -1,5 +1,5 @@
-use crate::printing::{assert_printed, assert_reported, owned, printed};
 use crate::rows::{change, mark_reported, parsed, push_partitions};
+use crate::tables::{assert_printed, assert_reported, owned, printed};
 use druid_inventory::Inventory;
 use druid_laws_world::{AskKind, Event, Sim, SimFault};
 use std::alloc::Global;

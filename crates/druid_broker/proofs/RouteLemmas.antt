@@ -7,14 +7,14 @@ use Rattle.std.proofs.lemmas.Bool.Decides.{nat_tests, leb_tells}
 use Rattle.std.proofs.lemmas.List.{drop_all}
 use Rattle.matchit.specs.Rows.{RowsOf}
 use Rattle.matchit.specs.Router.{RouteOf}
-use Rattle.druid_broker.specs.declared.routes.Place.{Place}
+use Rattle.druid_broker.specs.declared.routes.RouteKind.{RouteKind}
 use Rattle.matchit.specs.Seek.{or_else, first}
 use Rattle.druid_broker.specs.Routes.{entry, nowhere, entry_front, is_part, entry_route, route_of}
 use Rattle.druid_broker.specs.Rows.{entry_row, path_rows, the_rows, reported}
 use Rattle.druid_broker.proofs.RowLemmas.{literal, with_part, seek_part, part_beyond}
 
 -- the row that a path matches
-abbrev found : List ℕ → Option (RouteOf Place)
+abbrev found : List ℕ → Option (RouteOf RouteKind)
 found path = or_else (literal path_rows path) (with_part entry_front entry_row.1 path)
 
 abbrev IsRight : List ℕ → Type 0
@@ -49,7 +49,7 @@ pub leads : (path : List ℕ) → AllByRecursion (λ b. (256 == b) ≡ false) pa
 leads path low = ap (λ o. reported o path) (seek_part entry_front entry_row.1 path_rows path refl (refl, (refl, (refl, (refl, (refl, tt))))) low) ∙ right path
 
 -- what was found, over a router of these rows
-pub leads_to : (rows : RowsOf (RouteOf Place)) (path : List ℕ) (o : Option (RouteOf Place)) → rows ≡ the_rows → AllByRecursion (λ b. (256 == b) ≡ false) path
+pub leads_to : (rows : RowsOf (RouteOf RouteKind)) (path : List ℕ) (o : Option (RouteOf RouteKind)) → rows ≡ the_rows → AllByRecursion (λ b. (256 == b) ≡ false) path
     → first rows path ≡ o → reported o path ≡ route_of path
 leads_to rows path o are low is = ap (λ p. reported p path) (sym is) ∙ ap (λ r. reported (first r path) path) are ∙ leads path low
 

@@ -31,9 +31,9 @@ is_no_catch x w h = not-true (x == 257) (and_last (not (x == 256)) (not (x == 25
 plain_tail : (x : ℕ) (w : List ℕ) → plain (x ∷ w) ≡ true → plain w ≡ true
 plain_tail x w h = and_last (not (x == 256) && not (x == 257)) (plain w) h
 
-slash_tells : (path : List ℕ) → has_slash path ≡ list_any (λ b. b == 47) path
-slash_tells [] = refl
-slash_tells (b ∷ path) = by (b == 47) (slash_tells path)
+slash_reports : (path : List ℕ) → has_slash path ≡ list_any (λ b. b == 47) path
+slash_reports [] = refl
+slash_reports (b ∷ path) = by (b == 47) (slash_reports path)
   where
     by : (v : Bool) → has_slash path ≡ list_any (λ b. b == 47) path → cond v true (has_slash path) ≡ (v || list_any (λ b. b == 47) path)
     by true same = refl
@@ -137,7 +137,7 @@ module _ {K : Type 0} where
   part_here : (k : K) (b : ℕ) (path : List ℕ)
       → seek ((param_step (([], k) ∷ []) (b ∷ path)).0 - 1) (param_step (([], k) ∷ []) (b ∷ path)).1 path ≡ with_part [] k (b ∷ path)
   unfolding param_step
-  part_here k b path = by (has_slash (b ∷ path)) ∙ ap (λ v. cond (not v) (Some k) None) (slash_tells (b ∷ path))
+  part_here k b path = by (has_slash (b ∷ path)) ∙ ap (λ v. cond (not v) (Some k) None) (slash_reports (b ∷ path))
       ∙ ap (λ v. cond (v && not (list_any (λ x. x == 47) (b ∷ path))) (Some k) None) (sym (some_bytes b path))
     where
       by : (v : Bool) → seek ((cond {A = ℕ × RowsOf K} v (0, []) (length (b ∷ path), ([], k) ∷ [])).0 - 1) (cond {A = ℕ × RowsOf K} v (0, []) (length (b ∷ path), ([], k) ∷ [])).1 path

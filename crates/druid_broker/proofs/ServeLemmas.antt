@@ -4,7 +4,7 @@ use mathlib.Core.List.{IsPrefix}
 use Rattle.druid_inventory.specs.Entry.{Entry}
 use Rattle.druid_link.specs.Links.{Came}
 use Rattle.druid_http_message.specs.Requests.{RequestValue, parameters_of}
-use Rattle.druid_http_wire.specs.Served.{Tells, Gets, Allows, IsSent, IsServed, IsCutShort, FailsToServe, IsOutOfMemory}
+use Rattle.druid_http_wire.specs.Served.{Reports, Gets, Allows, IsSent, IsServed, IsCutShort, FailsToServe, IsOutOfMemory}
 use Rattle.druid_http_message.specs.declared.fault.WireFault.{WireFault}
 use Rattle.druid_http_wire.proofs.ServeLemmas.{WasRead, served, unsent}
 use Rattle.druid_query.specs.Query.{Query}
@@ -93,7 +93,7 @@ module _ {L : Type 0} (step : L → List ℕ → Came → L → Type 0) (order :
         → RespondsAt step order opening query seen now old new request status body
     whatever memory answer = inr (inl (memory, λ inventory. subst (λ (b : Bool). AnswersPost step order b inventory request.body old new status body) (sym posted) (answer inventory), same, links))
 
-    refused_as : (fault : QueryFault) → fault ≢ Memory → IsReadOf request.body (Err fault) → Tells 400 (refusal_text fault) status body ⊎ (NamesField fault × IsOutOfMemory status body)
+    refused_as : (fault : QueryFault) → fault ≢ Memory → IsReadOf request.body (Err fault) → Reports 400 (refusal_text fault) status body ⊎ (NamesField fault × IsOutOfMemory status body)
         → RespondsAt step order opening query seen now old new request status body
     refused_as fault had read (inl reported) =
         whatever (λ takes. absurd (one_reading request.body takes.1.0 fault had takes.1.1 read)) (λ inventory. inl (inr (fault, had, read, reported, links)))
@@ -101,7 +101,7 @@ module _ {L : Type 0} (step : L → List ℕ → Came → L → Type 0) (order :
         whatever (λ takes. lacks.1) (λ inventory. inr (inr (inl (fault, lacks.0, read, links)), lacks.1))
 
     -- what was posted is no query, or memory was refused to read it
-    refused : (fault : QueryFault) → IsReadOf request.body (Err fault) → (fault ≢ Memory → Tells 400 (refusal_text fault) status body ⊎ (NamesField fault × IsOutOfMemory status body))
+    refused : (fault : QueryFault) → IsReadOf request.body (Err fault) → (fault ≢ Memory → Reports 400 (refusal_text fault) status body ⊎ (NamesField fault × IsOutOfMemory status body))
         → (fault ≡ Memory → IsOutOfMemory status body) → RespondsAt step order opening query seen now old new request status body
     refused NotJson read reported memory = let had : NotJson ≢ Memory = λ e. cc in refused_as NotJson had read (reported had)
     refused UnknownType read reported memory = let had : UnknownType ≢ Memory = λ e. cc in refused_as UnknownType had read (reported had)
@@ -179,15 +179,15 @@ module _ {L : Type 0} (step : L → List ℕ → Came → L → Type 0) (order :
   of_question sources (asks.Entry number ask) asked answer = absurd asked
   of_question sources (asks.Rows rows timeout) asked answer = absurd asked
   of_question load_status asks.Sources asked answer = absurd asked
-  of_question load_status asks.LoadStatus asked answer = (gets (Tells 200 (loaded_text (is_loaded inventory))) asked answer.0, answer.1)
+  of_question load_status asks.LoadStatus asked answer = (gets (Reports 200 (loaded_text (is_loaded inventory))) asked answer.0, answer.1)
   of_question load_status (asks.Entry number ask) asked answer = absurd asked
   of_question load_status (asks.Rows rows timeout) asked answer = absurd asked
   of_question (entry node) asks.Sources asked answer = absurd asked
   of_question (entry node) asks.LoadStatus asked answer = absurd asked
   of_question (entry node) (asks.Entry number ask) asked answer =
-      let told : AnswersEntry inventory (number_at node) (ask_at (parameters_of request.target)) status body =
+      let entry_reported : AnswersEntry inventory (number_at node) (ask_at (parameters_of request.target)) status body =
       subst (λ (o : Option Ask). AnswersEntry inventory (number_at node) o status body) (sym asked.2)
       (subst (λ (n : Option ℕ). AnswersNumber inventory n ask status body) (sym asked.1) answer.0) in
-      (gets (AnswersEntry inventory (number_at node) (ask_at (parameters_of request.target))) asked.0 told, answer.1)
+      (gets (AnswersEntry inventory (number_at node) (ask_at (parameters_of request.target))) asked.0 entry_reported, answer.1)
   of_question (entry node) (asks.Rows rows timeout) asked answer = absurd asked
   of_question nowhere question asked answer = absurd asked

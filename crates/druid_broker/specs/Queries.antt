@@ -13,12 +13,12 @@ use Rattle.druid_partial_text.specs.Answers.{shortfall_text}
 use Rattle.druid_broker_scatter.specs.Plan.{Pair, IsPlanOf}
 use Rattle.druid_broker_scatter.specs.Gathered.{Exchange, AreMade, AreAsked, IsGathered}
 use Rattle.druid_link.specs.Links.{Came}
-use Rattle.druid_http_wire.specs.Served.{Tells}
+use Rattle.druid_http_wire.specs.Served.{Reports}
 
 -- the rows are whole, or what is missing is listed beside them
-abbrev pub TellsRows : Query → List Asked → List Group → ℕ → List ℕ → Type 0
-TellsRows query [] groups status body = Tells 200 (result_text query groups) status body
-TellsRows query (a ∷ more) groups status body = Tells 503 (shortfall_text query (a ∷ more) groups) status body
+abbrev pub ReportsRows : Query → List Asked → List Group → ℕ → List ℕ → Type 0
+ReportsRows query [] groups status body = Reports 200 (result_text query groups) status body
+ReportsRows query (a ∷ more) groups status body = Reports 503 (shortfall_text query (a ∷ more) groups) status body
 
 -- what is gathered over the links for the plan of the query
 pub record AnswersRows {L : Type 0} (step : L → List ℕ → Came → L → Type 0) (order : List ℕ → List ℕ) (inventory : List Entry) (query : Query) (old new : List L) (status : ℕ) (body : List ℕ) : Type 0 where
@@ -29,13 +29,13 @@ pub record AnswersRows {L : Type 0} (step : L → List ℕ → Came → L → Ty
   pub missing : List Asked
   pub groups : List Group
   pub gathered : IsGathered order query pairs exchanges missing groups
-  pub reported : TellsRows query missing groups status body
+  pub reported : ReportsRows query missing groups status body
 
 -- the bytes read as a query, or are refused as one, and then no link is used
 abbrev pub AnswersQuery : {L : Type 0} → (L → List ℕ → Came → L → Type 0) → (List ℕ → List ℕ) → List Entry → List ℕ → List L → List L → ℕ → List ℕ → Type 0
 AnswersQuery step order inventory bytes old new status body =
     ((query : Query) × IsReadOf bytes (Ok query) × AnswersRows step order inventory query old new status body)
-    ⊎ ((fault : QueryFault) × (fault ≢ Memory) × IsReadOf bytes (Err fault) × Tells 400 (refusal_text fault) status body × (new ≡ old))
+    ⊎ ((fault : QueryFault) × (fault ≢ Memory) × IsReadOf bytes (Err fault) × Reports 400 (refusal_text fault) status body × (new ≡ old))
 
 -- ---- out of memory
 

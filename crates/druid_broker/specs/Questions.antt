@@ -10,9 +10,9 @@ use Rattle.druid_query.specs.declared.fault.QueryFault.{QueryFault}
 use Rattle.druid_query.specs.declared.fault.QueryFault.TheVariants.{Memory}
 use Rattle.druid_link.specs.Links.{Came}
 use Rattle.druid_http_message.specs.Requests.{RequestValue, parameters_of}
-use Rattle.druid_http_wire.specs.Served.{Tells, Allows, IsOutOfMemory}
+use Rattle.druid_http_wire.specs.Served.{Reports, Allows, IsOutOfMemory}
 use Rattle.druid_broker.specs.Queries.{NamesField}
-use Rattle.druid_broker.specs.Routes.{Route, query, sources, load_status, entry, OrOutOfMemory, AnswersSources, AnswersNode, AnswersPost, TellsAt, loaded_text, is_loaded}
+use Rattle.druid_broker.specs.Routes.{Route, query, sources, load_status, entry, OrOutOfMemory, AnswersSources, AnswersNode, AnswersPost, ReportsAt, loaded_text, is_loaded}
 use Rattle.druid_broker.specs.Views.{TakesInventory}
 use Rattle.druid_broker.specs.declared.question.Question.{Question}
 use Rattle.druid_broker.specs.declared.question.Question.TheVariants as asks
@@ -30,7 +30,7 @@ Asks route request question = ⊥
 abbrev pub RefusesBody : List ℕ → ℕ → List ℕ → Type 0
 RefusesBody bytes status body =
     ((fault : QueryFault) × IsReadOf bytes (Err fault)
-    × (fault ≢ Memory → Tells 400 (refusal_text fault) status body ⊎ (NamesField fault × IsOutOfMemory status body))
+    × (fault ≢ Memory → Reports 400 (refusal_text fault) status body ⊎ (NamesField fault × IsOutOfMemory status body))
     × (fault ≡ Memory → IsOutOfMemory status body))
     ⊎ ((asked : Query) × IsReadOf bytes (Ok asked) × IsOutOfMemory status body)
 
@@ -38,12 +38,12 @@ RefusesBody bytes status body =
 abbrev pub Settles : Route → RequestValue → ℕ → List ℕ → Type 0
 Settles query request status body = Allows (bytes_eq request.method (codes "POST")) (RefusesBody request.body) status body
 Settles route request status body =
-    (TakesInventory route request → ⊥) × ((inventory : List Entry) → TellsAt route inventory request status body)
+    (TakesInventory route request → ⊥) × ((inventory : List Entry) → ReportsAt route inventory request status body)
 
 -- what an inventory answers to a question, and what the links become
 abbrev pub Answers : {L : Type 0} → (L → List ℕ → Came → L → Type 0) → (List ℕ → List ℕ) → Question → List Entry → List L → List L → ℕ → List ℕ → Type 0
 Answers step order asks.Sources inventory old new status body = OrOutOfMemory (AnswersSources inventory) status body × (new ≡ old)
-Answers step order asks.LoadStatus inventory old new status body = Tells 200 (loaded_text (is_loaded inventory)) status body × (new ≡ old)
+Answers step order asks.LoadStatus inventory old new status body = Reports 200 (loaded_text (is_loaded inventory)) status body × (new ≡ old)
 Answers step order (asks.Entry number ask) inventory old new status body = AnswersNode inventory number ask status body × (new ≡ old)
 Answers step order (asks.Rows asked timeout) inventory old new status body =
     (bytes : List ℕ) → IsReadOf bytes (Ok asked) → AnswersPost step order true inventory bytes old new status body

@@ -16,7 +16,7 @@ use Rattle.druid_inventory.specs.Entry.{Entry, IsUnsynced, IsAnswerOf}
 use Rattle.druid_inventory.specs.Sources.{HasSource}
 use Rattle.druid_link.specs.Links.{Came}
 use Rattle.druid_http_message.specs.Requests.{RequestValue, parameters_of}
-use Rattle.druid_http_wire.specs.Served.{Tells, Gets, IsOutOfMemory}
+use Rattle.druid_http_wire.specs.Served.{Reports, Gets, IsOutOfMemory}
 use Rattle.druid_broker.specs.Queries.{AnswersQuery, WantsMemory}
 
 -- where requests go
@@ -65,7 +65,7 @@ pub record AnswersSources (inventory : List Entry) (status : ℕ) (body : List �
   pub names : List (List ℕ)
   pub all : (source : List ℕ) → Contains names source ↔ HasSource inventory source
   pub ordered : IsStrictlySortedBy (slice_cmp nat_cmp) names
-  pub reported : Tells 200 (compact_text (names_data names)) status body
+  pub reported : Reports 200 (compact_text (names_data names)) status body
 
 -- each node was synced
 abbrev pub is_loaded : List Entry → Bool
@@ -78,41 +78,41 @@ loaded_text false = codes "{\"inventoryInitialized\":false}"
 -- what is known of a node, as it is asked for
 abbrev pub AnswersNode : List Entry → ℕ → Ask → ℕ → List ℕ → Type 0
 AnswersNode inventory node ask status body =
-    ((slice_get inventory node ≡ None) × Tells 404 (codes "{\"error\":\"V2\"}") status body)
-    ⊎ (IsUnsynced inventory node × Tells 404 (codes "{\"error\":\"V3\"}") status body)
-    ⊎ ((reply : Body) × IsAnswerOf inventory node ask reply × OrOutOfMemory (Tells 200 (reply_text reply)) status body)
+    ((slice_get inventory node ≡ None) × Reports 404 (codes "{\"error\":\"V2\"}") status body)
+    ⊎ (IsUnsynced inventory node × Reports 404 (codes "{\"error\":\"V3\"}") status body)
+    ⊎ ((reply : Body) × IsAnswerOf inventory node ask reply × OrOutOfMemory (Reports 200 (reply_text reply)) status body)
 
 -- of the node with that number, where one reads
 abbrev pub AnswersNumber : List Entry → Option ℕ → Ask → ℕ → List ℕ → Type 0
-AnswersNumber inventory None ask status body = Tells 404 (codes "{\"error\":\"V2\"}") status body
+AnswersNumber inventory None ask status body = Reports 404 (codes "{\"error\":\"V2\"}") status body
 AnswersNumber inventory (Some node) ask status body = AnswersNode inventory node ask status body
 
 -- to that ask, where one reads, and else whatever the node is
 abbrev pub AnswersEntry : List Entry → Option ℕ → Option Ask → ℕ → List ℕ → Type 0
-AnswersEntry inventory number None status body = Tells 400 (codes "{\"error\":\"Y6\"}") status body
+AnswersEntry inventory number None status body = Reports 400 (codes "{\"error\":\"Y6\"}") status body
 AnswersEntry inventory number (Some ask) status body = AnswersNumber inventory number ask status body
 
 -- ---- the whole
 
 -- what is answered on a route without asking a node
-abbrev pub TellsAt : Route → List Entry → RequestValue → ℕ → List ℕ → Type 0
-TellsAt health inventory request status body = Gets request (Tells 200 (codes "true")) status body
-TellsAt query inventory request status body = ⊥
-TellsAt sources inventory request status body = Gets request (OrOutOfMemory (AnswersSources inventory)) status body
-TellsAt load_status inventory request status body = Gets request (Tells 200 (loaded_text (is_loaded inventory))) status body
-TellsAt (entry node) inventory request status body =
+abbrev pub ReportsAt : Route → List Entry → RequestValue → ℕ → List ℕ → Type 0
+ReportsAt health inventory request status body = Gets request (Reports 200 (codes "true")) status body
+ReportsAt query inventory request status body = ⊥
+ReportsAt sources inventory request status body = Gets request (OrOutOfMemory (AnswersSources inventory)) status body
+ReportsAt load_status inventory request status body = Gets request (Reports 200 (loaded_text (is_loaded inventory))) status body
+ReportsAt (entry node) inventory request status body =
     Gets request (AnswersEntry inventory (number_at node) (ask_at (parameters_of request.target))) status body
-TellsAt nowhere inventory request status body = Tells 404 (codes "{\"error\":\"NoRoute\"}") status body
+ReportsAt nowhere inventory request status body = Reports 404 (codes "{\"error\":\"NoRoute\"}") status body
 
 -- the answer to a query that is posted; another method uses no link
 abbrev pub AnswersPost : {L : Type 0} → (L → List ℕ → Came → L → Type 0) → (List ℕ → List ℕ) → Bool → List Entry → List ℕ → List L → List L → ℕ → List ℕ → Type 0
 AnswersPost step order true inventory bytes old new status body =
     AnswersQuery step order inventory bytes old new status body ⊎ (WantsMemory step order inventory bytes old new × IsOutOfMemory status body)
-AnswersPost step order false inventory bytes old new status body = Tells 405 (codes "{\"error\":\"Method\"}") status body × (new ≡ old)
+AnswersPost step order false inventory bytes old new status body = Reports 405 (codes "{\"error\":\"Method\"}") status body × (new ≡ old)
 
 -- the answer on a route, and what the links become: only queries use them
 abbrev pub AnswersAt : {L : Type 0} → (L → List ℕ → Came → L → Type 0) → (List ℕ → List ℕ) → Route → List Entry → List L → List L → RequestValue → ℕ → List ℕ → Type 0
 AnswersAt step order query inventory old new request status body =
     AnswersPost step order (bytes_eq request.method (codes "POST")) inventory request.body old new status body
 AnswersAt step order route inventory old new request status body =
-    TellsAt route inventory request status body × (new ≡ old)
+    ReportsAt route inventory request status body × (new ≡ old)

@@ -9,7 +9,7 @@ use Rattle.druid_query.specs.Query.{Query}
 use Rattle.druid_query.specs.Read.{IsReadOf}
 use Rattle.druid_link.specs.Links.{Came}
 use Rattle.druid_http_message.specs.Requests.{RequestValue, path_of, parameters_of}
-use Rattle.druid_http_wire.specs.Served.{Tells, IsOutOfMemory}
+use Rattle.druid_http_wire.specs.Served.{Reports, IsOutOfMemory}
 use Rattle.druid_broker.specs.Routes.{Route, health, query, sources, load_status, entry, nowhere, route_of, AnswersAt}
 
 -- an answer takes the inventory where a query is posted that reads as one, and where what is known is got: of all nodes, or of
@@ -25,7 +25,7 @@ TakesInventory nowhere request = ⊥
 
 -- what is answered where nothing was read: the view was given no reading, or memory was refused
 abbrev pub AnswersUnread : ℕ → List ℕ → Type 0
-AnswersUnread status body = Tells 500 (codes "{\"error\":\"NoReading\"}") status body ⊎ IsOutOfMemory status body
+AnswersUnread status body = Reports 500 (codes "{\"error\":\"NoReading\"}") status body ⊎ IsOutOfMemory status body
 
 -- what a broker answers on a route by way of a view, which has seen one list of what is published and then another: where the answer
 -- takes the inventory, by that which the second list makes of the opening one; or what it answers whatever is known; or that nothing

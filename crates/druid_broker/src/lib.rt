@@ -1,12 +1,12 @@
 //! The front of a broker: what it answers over HTTP.
 #![tactic(auto)]
 
-mod knowing;
-mod querying;
+mod exchange;
+mod inventory_response;
+mod query_response;
 mod question;
-mod responding;
+mod response;
 mod routes;
-mod serving;
 
+pub use exchange::serve_one;
 pub use routes::Routes;
-pub use serving::serve_one;

@@ -1,13 +1,13 @@
 //! What a request asks of a broker. No inventory is at hand where that is read.
 ghost use Rattle.std.specs.Prelude.{◌≡◌, ◌⊎◌, true, false, IfOk, IfErr, codes, bytes_eq};
 ghost use Rattle.druid_http_message.specs.Requests.{path_of};
-ghost use Rattle.druid_http_wire.specs.Served.{Tells};
+ghost use Rattle.druid_http_wire.specs.Served.{Reports};
 ghost use Rattle.druid_broker.specs.Borrowed.{borrowed_route};
 ghost use Rattle.druid_broker.specs.Routes.{entry, query, route_of};
 ghost use Rattle.druid_broker.specs.Questions.{Asks, Settles};
 
-use crate::knowing::unknown_node;
-use crate::querying::refuse_query;
+use crate::inventory_response::unknown_node;
+use crate::query_response::refuse_query;
 use crate::routes::{Route, Routes};
 use druid_base::number_of;
 use druid_http_message::Request;
@@ -52,7 +52,7 @@ fn posted(alloc: Global, request: &Request) -> Result<Question, Response>
 fn got(request: &Request, question: Question) -> Result<Question, Response>
     ensures ok { IfOk result (λ q. (q ≡ question) × (bytes_eq request.now.method (codes "GET") ≡ true)) }
     ensures err { IfErr result (λ r. (bytes_eq request.now.method (codes "GET") ≡ false)
-        × Tells 405 (codes "{\"error\":\"Method\"}") r.status r.body) }
+        × Reports 405 (codes "{\"error\":\"Method\"}") r.status r.body) }
 {
     if request.has_method("GET") {
         Ok(question)

@@ -9,7 +9,7 @@ use std::alloc::Global;
 
 // What a row of the router names.
 #[derive(Clone, Copy)]
-enum Place {
+enum RouteKind {
     Health,
     Query,
     Sources,
@@ -35,16 +35,16 @@ pub(crate) enum Route<'a> {
 }
 
 // The router, with a row for each path.
-fn router(alloc: Global) -> Result<Router<Place>, InsertError>
+fn router(alloc: Global) -> Result<Router<RouteKind>, InsertError>
     ensures { IfOk result (λ router. router ≡ the_rows) }
 {
     let mut router = Router::new(alloc);
-    router.insert("/status/health", Place::Health)?;
-    router.insert("/druid/v2", Place::Query)?;
-    router.insert("/druid/v2/", Place::Query)?;
-    router.insert("/druid/v2/datasources", Place::Sources)?;
-    router.insert("/druid/broker/v1/loadstatus", Place::LoadStatus)?;
-    router.insert("/druid-internal/v1/inventory/{node}", Place::Entry)?;
+    router.insert("/status/health", RouteKind::Health)?;
+    router.insert("/druid/v2", RouteKind::Query)?;
+    router.insert("/druid/v2/", RouteKind::Query)?;
+    router.insert("/druid/v2/datasources", RouteKind::Sources)?;
+    router.insert("/druid/broker/v1/loadstatus", RouteKind::LoadStatus)?;
+    router.insert("/druid-internal/v1/inventory/{node}", RouteKind::Entry)?;
     Ok(router)
 }
 
@@ -61,7 +61,7 @@ fn beyond_front(path: &[u8]) -> &[u8]
 /// The routes of a broker.
 #[derive(Drop)]
 pub struct Routes {
-    router: Router<Place>,
+    router: Router<RouteKind>,
     ghost rows: { router ≡ the_rows },
 }
 
@@ -85,11 +85,11 @@ impl Routes {
             return Route::Nowhere;
         };
         match found.value {
-            Place::Health => Route::Health,
-            Place::Query => Route::Query,
-            Place::Sources => Route::Sources,
-            Place::LoadStatus => Route::LoadStatus,
-            Place::Entry => Route::Entry(beyond_front(path.as_bytes())),
+            RouteKind::Health => Route::Health,
+            RouteKind::Query => Route::Query,
+            RouteKind::Sources => Route::Sources,
+            RouteKind::LoadStatus => Route::LoadStatus,
+            RouteKind::Entry => Route::Entry(beyond_front(path.as_bytes())),
         }
     }
 }

@@ -1,2 +1,2 @@
 pub mod TurnLemmas
-pub mod PagingLemmas
+pub mod PageLemmas

@@ -6,7 +6,7 @@ use Rattle.druid_segment_descriptor.specs.declared.change.Ask.{Ask}
 use Rattle.druid_segment_descriptor.specs.declared.change.Ask.TheVariants.{Whole}
 use Rattle.druid_segment_descriptor.specs.declared.reply.Body.{Body}
 use Rattle.druid_inventory.specs.Entry.{Entry}
-use Rattle.druid_inventory.specs.Step.{StepsAt, Tells, RefusedAt}
+use Rattle.druid_inventory.specs.Step.{StepsAt, Reports, RefusedAt}
 use Rattle.druid_inventory.specs.declared.fault.Outcome.{Outcome}
 use Rattle.druid_inventory.specs.declared.fault.ApplyFault.{ApplyFault}
 use Rattle.druid_inventory.specs.declared.fault.ApplyFault.TheVariants as apply
@@ -73,7 +73,7 @@ module _ {L : Type 0} (step : L → List ℕ → Came → L → Type 0) where
 
 -- a reply that is not applied, of a node that is there, is refused
 pub refused_at : (inventory : List Entry) (node : ℕ) (body : Body) (fault : ApplyFault) → (slice_get inventory node ≡ None → ⊥) → fault ≢ apply.Memory
-    → Tells inventory node body fault → RefusedAt inventory node body fault
+    → Reports inventory node body fault → RefusedAt inventory node body fault
 refused_at inventory node body apply.UnknownNode there other reported = absurd (there reported)
 refused_at inventory node body apply.OtherIncarnation there other reported = reported
 refused_at inventory node body apply.Gap there other reported = reported

@@ -3,5 +3,5 @@ pub mod Turns
 pub mod Rests
 -- words of private contracts
 pub mod Refused
-pub mod Paging
+pub mod Pages
 pub mod Shown

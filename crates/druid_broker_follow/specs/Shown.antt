@@ -8,7 +8,7 @@ use Rattle.druid_inventory.specs.declared.fault.Outcome.{Outcome}
 use Rattle.druid_inventory.specs.declared.fault.Outcome.TheVariants.{Moved, AlreadyHave, AskWhole, AskPages}
 use Rattle.druid_broker_follow.specs.declared.fault.TurnFault.{TurnFault}
 use Rattle.druid_broker_follow.specs.declared.fault.TurnFault.TheVariants as turn
-use Rattle.druid_broker_follow.specs.declared.observe.Marks.{Marks}
+use Rattle.druid_broker_follow.specs.declared.observer.Marks.{Marks}
 
 -- the mark of the node once its reply is applied; of a reset the one that it has
 abbrev pub shown_by : Body → Point

@@ -3,7 +3,7 @@ ghost use Rattle.std.specs.Prelude.{◌≡◌, ◌≢◌, ◌⊎◌, IfOk, Ok, E
 ghost use Rattle.druid_link.specs.Links.{came_of};
 ghost use Rattle.druid_http_wire.specs.Written.{request_text};
 ghost use Rattle.druid_broker_follow.specs.Turns.{get_request, IsAnswerTo, Fetches};
-ghost use Rattle.druid_broker_follow.specs.Paging.{request_at};
+ghost use Rattle.druid_broker_follow.specs.Pages.{request_at};
 
 use crate::TurnFault;
 use druid_http_message::{Request, WireFault};

@@ -11,7 +11,7 @@ ghost use Rattle.druid_broker_follow.specs.Turns.{IsUnread, IsFetchedFrom, Takes
 ghost use Rattle.druid_broker_follow.specs.Refused.{RefusesTurn};
 
 use crate::TurnFault;
-use crate::observe::{Marks, Observe, Turned, marks_at};
+use crate::observer::{Marks, Observe, Turned, marks_at};
 use crate::turns::{fetch, publish_reply};
 use druid_inventory::{Inventory, Outcome};
 use druid_inventory_views::{Publication, PublishFault, Publisher, Receipt, View};

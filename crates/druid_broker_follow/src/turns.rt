@@ -6,7 +6,7 @@ ghost use Rattle.druid_broker_follow.specs.Refused.{RefusesTurn};
 
 use crate::TurnFault;
 use crate::exchange::ask_once;
-use crate::paging::{ask_all, follow_pages};
+use crate::pages::{ask_all, follow_pages};
 use druid_inventory::{Inventory, Outcome};
 use druid_inventory_views::{Publication, PublishFault, Publisher, Receipt};
 use druid_link::Link;

@@ -17,7 +17,7 @@ use Rattle.druid_query.specs.Asked.{Asked}
 use Rattle.druid_broker_scatter.specs.Plan.{Pair, asked_of, place_cmp}
 use Rattle.druid_query.specs.Query.{Query}
 use Rattle.druid_broker_scatter.specs.Gathered.{Exchange, Asks, AsksInRound, AreAsked, Gives}
-use Rattle.druid_broker_scatter.specs.Waiting.{Waiting, pieces_of, is_node, has_turn, wanted_of, AsksAt, IsOrdered, AreOrdered, AreAskedBefore, Holds}
+use Rattle.druid_broker_scatter.specs.Pending.{PendingSlice, pieces_of, is_node, has_turn, wanted_of, AsksAt, IsOrdered, AreOrdered, AreAskedBefore, Holds}
 
 -- ---- places
 
@@ -53,16 +53,16 @@ is_node-true (Some m) n e = ap Some ((Decides-eqb m n).0 e)
 pub is_node-same : (o : Option ℕ) (n : ℕ) → o ≡ Some n → is_node o n ≡ true
 is_node-same o n e = subst (λ (x : _). is_node x n ≡ true) (sym e) ((Decides-eqb n n).1 refl)
 
-pub wanted_by : (round node : ℕ) (left : List Waiting) (a : Asked) → Contains (wanted_of round left node) a
-    → (w : Waiting) × Contains left w × (w.asked ≡ a) × (slice_get w.order round ≡ Some node)
+pub wanted_by : (round node : ℕ) (left : List PendingSlice) (a : Asked) → Contains (wanted_of round left node) a
+    → (w : PendingSlice) × Contains left w × (w.asked ≡ a) × (slice_get w.order round ≡ Some node)
 wanted_by round node left a c =
-    let of = Contains-map (λ (w : Waiting). w.asked) (filter (has_turn round node) left) a c in
+    let of = Contains-map (λ (w : PendingSlice). w.asked) (filter (has_turn round node) left) a c in
     let kept = from_filter (has_turn round node) left of.0 of.1 in
     (of.0, kept.0, of.2, is_node-true (slice_get of.0.order round) node kept.1)
 
-pub wanted_back : (round node : ℕ) (left : List Waiting) (w : Waiting) → Contains left w → slice_get w.order round ≡ Some node → Contains (wanted_of round left node) w.asked
+pub wanted_back : (round node : ℕ) (left : List PendingSlice) (w : PendingSlice) → Contains left w → slice_get w.order round ≡ Some node → Contains (wanted_of round left node) w.asked
 wanted_back round node left w c at =
-    Contains-map_back (λ (w : Waiting). w.asked) (filter (has_turn round node) left) w
+    Contains-map_back (λ (w : PendingSlice). w.asked) (filter (has_turn round node) left) w
     (in_filter (has_turn round node) left w c (is_node-same (slice_get w.order round) node at))
 
 -- ---- the start
@@ -71,7 +71,7 @@ no_place : {X : Type 0} (i : ℕ) (x : X) → slice_get [] i ≡ Some x → ⊥
 no_place i x e = cc
 
 -- nothing was asked
-none_before : (query : Query) (waits : List Waiting) → AreAskedBefore query waits 0 []
+none_before : (query : Query) (waits : List PendingSlice) → AreAskedBefore query waits 0 []
 none_before query waits = record {
   planned = λ e a in_it c. absurd (Contains-nil e in_it);
   asks = λ e in_it. absurd (Contains-nil e in_it);
@@ -92,7 +92,7 @@ no_asks order query pairs = record {
   in_turn = λ i e p r s n at in_p asks less there. absurd (no_place i e at);
 }
 
-pub start : (query : Query) (waits : List Waiting) → IsStrictlySortedBy place_cmp (pieces_of waits) → Holds query waits waits 0 []
+pub start : (query : Query) (waits : List PendingSlice) → IsStrictlySortedBy place_cmp (pieces_of waits) → Holds query waits waits 0 []
 start query waits s = record {
   asked = none_before query waits;
   left_are = λ w. (λ c. (c, λ e in_it g. Contains-nil e in_it), λ c. c.0);
@@ -128,38 +128,38 @@ pub place_cmp-total : IsTotalOrder place_cmp
 place_cmp-total = then_total (on_total (λ (a : Asked). a.1.start) nat_cmp_total) (on_total (λ (a : Asked). a.0.partition) nat_cmp_total)
 
 -- all rounds are over: no order is longer
-pub record IsOver (left : List Waiting) (round : ℕ) : Type 0 where
-  pub each : (w : Waiting) → Contains left w → length w.order ≤ round
+pub record IsOver (left : List PendingSlice) (round : ℕ) : Type 0 where
+  pub each : (w : PendingSlice) → Contains left w → length w.order ≤ round
 
-pub missing_are : (query : Query) (order : List ℕ → List ℕ) (pairs : List Pair) (waits left : List Waiting) (round : ℕ) (exchanges : List Exchange) → AreOrdered order pairs waits
+pub missing_are : (query : Query) (order : List ℕ → List ℕ) (pairs : List Pair) (waits left : List PendingSlice) (round : ℕ) (exchanges : List Exchange) → AreOrdered order pairs waits
     → Holds query waits left round exchanges → (a : Asked)
     → Contains (pieces_of left) a ↔ (Contains (asked_of pairs) a × ((e : Exchange) → Contains exchanges e → Gives query e a → ⊥))
 missing_are query order pairs waits left round exchanges o h a = (
-  λ c. let of = Contains-map (λ (w : Waiting). w.asked) left a c in
+  λ c. let of = Contains-map (λ (w : PendingSlice). w.asked) left a c in
       let is = (h.left_are of.0).0 of.1 in
-      let there : Contains (pieces_of waits) a = subst (Contains (pieces_of waits)) of.2 (Contains-map_back (λ (w : Waiting). w.asked) waits of.0 is.0) in
+      let there : Contains (pieces_of waits) a = subst (Contains (pieces_of waits)) of.2 (Contains-map_back (λ (w : PendingSlice). w.asked) waits of.0 is.0) in
       (subst (λ (xs : _). Contains xs a) o.whole there, λ e in_it g. is.1 e in_it (subst (Gives query e) (sym of.2) g)),
-  λ c. let of = Contains-map (λ (w : Waiting). w.asked) waits a (subst (λ (xs : _). Contains xs a) (sym o.whole) c.0) in
+  λ c. let of = Contains-map (λ (w : PendingSlice). w.asked) waits a (subst (λ (xs : _). Contains xs a) (sym o.whole) c.0) in
       let is = (h.left_are of.0).1 (of.1, λ e in_it g. c.1 e in_it (subst (Gives query e) of.2 g)) in
-      subst (Contains (pieces_of left)) of.2 (Contains-map_back (λ (w : Waiting). w.asked) left of.0 is),
+      subst (Contains (pieces_of left)) of.2 (Contains-map_back (λ (w : PendingSlice). w.asked) left of.0 is),
 )
 
 -- the pieces of a plan stand in its order
-plan_sorted : (order : List ℕ → List ℕ) (pairs : List Pair) (waits : List Waiting) → AreOrdered order pairs waits → IsStrictlySortedBy place_cmp (asked_of pairs)
+plan_sorted : (order : List ℕ → List ℕ) (pairs : List Pair) (waits : List PendingSlice) → AreOrdered order pairs waits → IsStrictlySortedBy place_cmp (asked_of pairs)
 plan_sorted order pairs waits o = subst (IsStrictlySortedBy place_cmp) o.whole o.sorted
 
 -- the pair of a piece that waits is the only one of its piece
-own_pair : (order : List ℕ → List ℕ) (pairs : List Pair) (waits : List Waiting) → AreOrdered order pairs waits → (w : Waiting) → Contains waits w → (p : Pair) → Contains pairs p → w.asked ≡ p.asked
+own_pair : (order : List ℕ → List ℕ) (pairs : List Pair) (waits : List PendingSlice) → AreOrdered order pairs waits → (w : PendingSlice) → Contains waits w → (p : Pair) → Contains pairs p → w.asked ≡ p.asked
     → (q : IsOrdered order pairs w) × (q.pair ≡ p)
 own_pair order pairs waits o w in_w p in_p same =
     let q = o.each w in_w in
     (q, own_keys place_cmp place_cmp-total (λ (p : Pair). p.asked) pairs (plan_sorted order pairs waits o) q.pair p q.in_plan in_p (q.of ∙ same))
 
-pub missing_were_asked : (query : Query) (order : List ℕ → List ℕ) (pairs : List Pair) (waits left : List Waiting) (round : ℕ) (exchanges : List Exchange) → AreOrdered order pairs waits
+pub missing_were_asked : (query : Query) (order : List ℕ → List ℕ) (pairs : List Pair) (waits left : List PendingSlice) (round : ℕ) (exchanges : List Exchange) → AreOrdered order pairs waits
     → Holds query waits left round exchanges → IsOver left round → (p : Pair) (node : ℕ) → Contains pairs p → Contains (pieces_of left) p.asked
     → Contains p.nodes node → (e : Exchange) × Contains exchanges e × Asks e p.asked node
 missing_were_asked query order pairs waits left round exchanges o h over p node c missing serves =
-    let of = Contains-map (λ (w : Waiting). w.asked) left p.asked missing in
+    let of = Contains-map (λ (w : PendingSlice). w.asked) left p.asked missing in
     let q = own_pair order pairs waits o of.0 ((h.left_are of.0).0 of.1).0 p c of.2 in
     let there = Contains-permutation q.0.pair.nodes of.0.order node q.0.moved (subst (λ (r : Pair). Contains r.nodes node) (sym q.1) serves) in
     let at = contains_get of.0.order node there in
@@ -168,18 +168,18 @@ missing_were_asked query order pairs waits left round exchanges o h over p node 
     (d.0, d.1, (d.2.0, subst (Contains d.0.asked) of.2 d.2.1))
 
 -- a pair of the plan waits, with its nodes in their order
-its_wait : (order : List ℕ → List ℕ) (pairs : List Pair) (waits : List Waiting) → AreOrdered order pairs waits → (p : Pair) → Contains pairs p
-    → (w : Waiting) × Contains waits w × (w.asked ≡ p.asked) × (w.order ≡ order p.nodes)
+its_wait : (order : List ℕ → List ℕ) (pairs : List Pair) (waits : List PendingSlice) → AreOrdered order pairs waits → (p : Pair) → Contains pairs p
+    → (w : PendingSlice) × Contains waits w × (w.asked ≡ p.asked) × (w.order ≡ order p.nodes)
 its_wait order pairs waits o p c =
-    let of = Contains-map (λ (w : Waiting). w.asked) waits p.asked (subst (λ (xs : _). Contains xs p.asked) (sym o.whole) (Contains-map_back (λ (p : Pair). p.asked) pairs p c)) in
+    let of = Contains-map (λ (w : PendingSlice). w.asked) waits p.asked (subst (λ (xs : _). Contains xs p.asked) (sym o.whole) (Contains-map_back (λ (p : Pair). p.asked) pairs p c)) in
     let q = own_pair order pairs waits o of.0 of.1 p c of.2 in
     (of.0, of.1, of.2, q.0.ordered ∙ ap (λ (r : Pair). order r.nodes) q.1)
 
 -- what a round asks of a pair is asked of its piece, where that waits
-at_wait : (order : List ℕ → List ℕ) (p : Pair) (w : Waiting) (e : Exchange) (round : ℕ) → w.asked ≡ p.asked → w.order ≡ order p.nodes → AsksInRound order e p round → AsksAt e w round
+at_wait : (order : List ℕ → List ℕ) (p : Pair) (w : PendingSlice) (e : Exchange) (round : ℕ) → w.asked ≡ p.asked → w.order ≡ order p.nodes → AsksInRound order e p round → AsksAt e w round
 at_wait order p w e round same ordered asks = (subst (Contains e.asked) (sym same) asks.0, ap (λ (xs : List ℕ). slice_get xs round) ordered ∙ asks.1)
 
-pub are_asked : (query : Query) (order : List ℕ → List ℕ) (pairs : List Pair) (waits : List Waiting) (round : ℕ) (exchanges : List Exchange) → AreOrdered order pairs waits
+pub are_asked : (query : Query) (order : List ℕ → List ℕ) (pairs : List Pair) (waits : List PendingSlice) (round : ℕ) (exchanges : List Exchange) → AreOrdered order pairs waits
     → AreAskedBefore query waits round exchanges → AreAsked order query pairs exchanges
 are_asked query order pairs waits round exchanges o h = record {
   planned = λ e a in_it c.

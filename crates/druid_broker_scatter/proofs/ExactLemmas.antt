@@ -35,7 +35,7 @@ use Rattle.druid_query.specs.AskedOrder.{same_asked, same_asked-equiv}
 use Rattle.druid_query.proofs.AskedLemmas.{overlap_seen}
 use Rattle.druid_partial.specs.Groups.{Group as Reported, IsResult}
 use Rattle.druid_partial.specs.Partials.{kinds_of}
-use Rattle.druid_partial_scan.specs.Rows.{is_asked, passes_if, tells}
+use Rattle.druid_partial_scan.specs.Rows.{is_asked, passes_if, row_group}
 use Rattle.druid_partial_scan.specs.Once.{counted_groups, counted_of, counted_once, is_counted}
 use Rattle.druid_partial_text.specs.Answers.{missing_at}
 use Rattle.druid_query.specs.PieceOrder.{same_asked-true}
@@ -45,7 +45,7 @@ use Rattle.druid_http_wire.proofs.OnceLemmas.{one_response}
 use Rattle.druid_partial.proofs.GroupLemmas.{Alike, result_alike, result_is_alike, alike_append, alike_through, alike_equal}
 use Rattle.druid_partial_scan.proofs.OnceLemmas.{counted_alike}
 use Rattle.druid_broker_scatter.specs.Plan.{Pair, asked_of, place_cmp, IsWanted, IsPlanOf}
-use Rattle.druid_broker_scatter.specs.Gathered.{Exchange, Answers, Gives, TellAll, AtOnePlace, IsGathered}
+use Rattle.druid_broker_scatter.specs.Gathered.{Exchange, Answers, Gives, AllReport, AtOnePlace, IsGathered}
 use Rattle.druid_broker_scatter.specs.Exact.{without, IsHonest, AreServed, Sees, counts, counted_visible}
 use Rattle.druid_broker_scatter.proofs.LawLemmas.{shows_there, one_run}
 
@@ -122,14 +122,14 @@ apart_sorted (x ∷ xs) sorted one = (
 
 -- ---- the pieces that were given
 
-abbrev pub pieces_given : (query : Query) (es : List Exchange) (rows : List Reported) → TellAll query es rows → List Asked
-pieces_given query [] rows tell = []
+abbrev pub pieces_given : (query : Query) (es : List Exchange) (rows : List Reported) → AllReport query es rows → List Asked
+pieces_given query [] rows report = []
 pieces_given query (e ∷ more) rows (inl t) = without t.0 e.asked ++ pieces_given query more t.2 t.4
 pieces_given query (e ∷ more) rows (inr t) = pieces_given query more rows t.1
 
-given_alike : (query : Query) (segments : List Segment) (es : List Exchange) (rows : List Reported) (tell : TellAll query es rows)
-    → ((e : Exchange) → Contains es e → IsHonest query segments e) → Alike (kinds_of query) rows (counted_groups query segments (pieces_given query es rows tell))
-given_alike query segments [] rows tell honest = alike_equal (kinds_of query) rows [] tell
+given_alike : (query : Query) (segments : List Segment) (es : List Exchange) (rows : List Reported) (report : AllReport query es rows)
+    → ((e : Exchange) → Contains es e → IsHonest query segments e) → Alike (kinds_of query) rows (counted_groups query segments (pieces_given query es rows report))
+given_alike query segments [] rows report honest = alike_equal (kinds_of query) rows [] report
 given_alike query segments (e ∷ more) rows (inl t) honest =
     let kinds = kinds_of query in
     let front = without t.0 e.asked in
@@ -167,9 +167,9 @@ free a missing absent =
     ap not (false_from_ne_true (list_any (same_asked a) missing) (λ h. let f = any_found (same_asked a) missing h in absent (subst (Contains missing) (sym (same_asked-true a f.0 f.2)) f.1)))
 
 -- each of them was given by an exchange
-in_given : (query : Query) (es : List Exchange) (rows : List Reported) (tell : TellAll query es rows) (a : Asked) → Contains (pieces_given query es rows tell) a
+in_given : (query : Query) (es : List Exchange) (rows : List Reported) (report : AllReport query es rows) (a : Asked) → Contains (pieces_given query es rows report) a
     → (e : Exchange) × Contains es e × Gives query e a
-in_given query [] rows tell a there = absurd (Contains-nil a there)
+in_given query [] rows report a there = absurd (Contains-nil a there)
 in_given query (e ∷ more) rows (inl t) a there =
     elim (Contains-append_cases (without t.0 e.asked) (pieces_given query more t.2 t.4) a there) [
       | inl front ↦
@@ -180,9 +180,9 @@ in_given query (e ∷ more) rows (inl t) a there =
 in_given query (e ∷ more) rows (inr t) a there = let f = in_given query more rows t.1 a there in (f.0, Contains-later e more f.0 f.1, f.2)
 
 -- what an exchange gave is among them
-to_given : (query : Query) (es : List Exchange) (rows : List Reported) (tell : TellAll query es rows) (e : Exchange) (a : Asked) → Contains es e → Gives query e a
-    → Contains (pieces_given query es rows tell) a
-to_given query [] rows tell e a there gives = absurd (Contains-nil e there)
+to_given : (query : Query) (es : List Exchange) (rows : List Reported) (report : AllReport query es rows) (e : Exchange) (a : Asked) → Contains es e → Gives query e a
+    → Contains (pieces_given query es rows report) a
+to_given query [] rows report e a there gives = absurd (Contains-nil e there)
 to_given query (x ∷ more) rows (inl t) e a there gives =
     elim (Contains-cons x more e there) [
       | inl same ↦
@@ -206,12 +206,12 @@ at_place es e there = (there.0, slice_get-get_or es there.0 e there.1 ∙ ap (λ
 later_places : (e : Exchange) (more : List Exchange) (P : Exchange → Exchange → Type 0) → AtOnePlace (e ∷ more) P → AtOnePlace more P
 later_places e more P once i j x y at_i at_j h = let same = once (suc i) (suc j) x y at_i at_j h in omega (arith, same)
 
-given_apart : (query : Query) (es : List Exchange) (rows : List Reported) (tell : TellAll query es rows)
+given_apart : (query : Query) (es : List Exchange) (rows : List Reported) (report : AllReport query es rows)
     → ((e : Exchange) → Contains es e → IsStrictlySortedBy place_cmp e.asked)
     → ((e f : Exchange) (a b : Asked) → Contains es e → Contains es f → Contains e.asked a → Contains f.asked b → Overlap a b → a ≡ b)
     → ((a : Asked) → AtOnePlace es (λ x y. Gives query x a × Gives query y a))
-    → AllApart (pieces_given query es rows tell)
-given_apart query [] rows tell sorted one once = tt
+    → AllApart (pieces_given query es rows report)
+given_apart query [] rows report sorted one once = tt
 given_apart query (e ∷ more) rows (inl t) sorted one once =
     apart_append (without t.0 e.asked) (pieces_given query more t.2 t.4)
     (apart_filter (λ (x : Asked). not (list_any (same_asked x) t.0)) e.asked (apart_sorted e.asked (sorted e (0, omega arith, refl)) (λ a b. one e e a b (0, omega arith, refl) (0, omega arith, refl))))
@@ -390,7 +390,7 @@ module _ (order : List ℕ → List ℕ) (inventory : List Entry) (query : Query
   once_visible : (ss : List Segment) → ((s : Segment) → Contains ss s → Contains segments s) → counted_once query given ss ≡ counted_visible query sees missing ss
   once_visible [] among = refl
   once_visible (s ∷ more) among =
-      λ i. map (tells query s.fields) (filter_agree (is_counted query given s) (counts query sees missing s) (counted s (among s (0, omega arith, refl))) s.rows i)
+      λ i. map (row_group query s.fields) (filter_agree (is_counted query given s) (counts query sees missing s) (counted s (among s (0, omega arith, refl))) s.rows i)
       ++ once_visible more (λ x there. among x (Contains-later s more x there)) i
 
   pub exact : ((e : Exchange) → Contains exchanges e → IsHonest query segments e) → IsResult (kinds_of query) (counted_visible query sees missing segments) groups

@@ -1,7 +1,7 @@
 pub mod RoundLemmas
 pub mod PlanLemmas
 pub mod WaitLemmas
-pub mod TellLemmas
+pub mod ReportLemmas
 pub mod MadeLemmas
 pub mod StateLemmas
 pub mod GatherLemmas

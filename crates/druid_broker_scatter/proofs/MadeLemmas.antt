@@ -10,7 +10,7 @@ use Rattle.druid_query.specs.Query.{Query}
 use Rattle.druid_link.specs.Links.{Came}
 use Rattle.druid_http_wire.specs.Written.{request_text}
 use Rattle.druid_broker_scatter.specs.Gathered.{Exchange, Leads, AreMade, request_for}
-use Rattle.druid_broker_scatter.specs.Waiting.{AreLed}
+use Rattle.druid_broker_scatter.specs.Pending.{AreLed}
 use Rattle.druid_broker_scatter.proofs.AskedLemmas.{get_append}
 
 -- exchanges with other nodes leave a link alone

@@ -20,23 +20,23 @@ use Rattle.druid_partial.specs.Partials.{Partial, IsPartial, IsPartialFor, kinds
 use Rattle.druid_partial.proofs.GroupLemmas.{merge_of_results}
 use Rattle.druid_link.specs.Links.{Came}
 use Rattle.druid_http_wire.specs.Written.{request_text}
-use Rattle.druid_broker_scatter.specs.Gathered.{Exchange, Answers, IsLost, TellAll, request_for}
-use Rattle.druid_broker_scatter.specs.Waiting.{Ask, AreRead, AreSent, BothRead, Found, HaveLinks, IsRead, MayLackMemory, Missed, Reads, TellsIf, TellsPlaces, ask_of, exchange_of, missed_of, sub_request}
+use Rattle.druid_broker_scatter.specs.Gathered.{Exchange, Answers, IsLost, AllReport, request_for}
+use Rattle.druid_broker_scatter.specs.Pending.{Ask, AreRead, AreSent, BothRead, Found, HaveLinks, IsRead, MayLackMemory, Missed, Reads, ReportsIf, ReportsPlaces, ask_of, exchange_of, missed_of, sub_request}
 use Rattle.druid_broker_scatter.proofs.MadeLemmas.{both_led, none_led, one_led}
-use Rattle.druid_broker_scatter.proofs.StateLemmas.{tells_itself}
+use Rattle.druid_broker_scatter.proofs.StateLemmas.{reports_itself}
 use Rattle.druid_broker_scatter.proofs.WaitLemmas.{head_missed, tail_missed}
 
 -- ---- of the exchanges of a round
 
 -- all of them tell these rows
-pub read_tells : (query : Query) (made : List Exchange) (missed : List Missed) (rows : List Group) → AreRead query made missed rows → TellAll query made rows
-read_tells query [] [] rows h = h
-read_tells query [] (m ∷ missed) rows h = absurd h
-read_tells query (e ∷ made) [] rows h = absurd h
-read_tells query (e ∷ made) (m ∷ missed) rows h = one m.1 h.3 (read_tells query made missed h.1 h.4)
+pub read_reports : (query : Query) (made : List Exchange) (missed : List Missed) (rows : List Group) → AreRead query made missed rows → AllReport query made rows
+read_reports query [] [] rows h = h
+read_reports query [] (m ∷ missed) rows h = absurd h
+read_reports query (e ∷ made) [] rows h = absurd h
+read_reports query (e ∷ made) (m ∷ missed) rows h = one m.1 h.3 (read_reports query made missed h.1 h.4)
   where
-    one : (found : Option Found) → IsRead query e found h.0 → TellAll query made h.1 → TellAll query (e ∷ made) rows
-    one None lost rest = inr (lost.0, subst (TellAll query made) (sym (h.5 ∙ ap (λ (rows : List Group). rows ++ h.1) lost.1)) rest)
+    one : (found : Option Found) → IsRead query e found h.0 → AllReport query made h.1 → AllReport query (e ∷ made) rows
+    one None lost rest = inr (lost.0, subst (AllReport query made) (sym (h.5 ∙ ap (λ (rows : List Group). rows ++ h.1) lost.1)) rest)
     one (Some found) answer rest = inl (answer.0, h.0, h.1, answer.1, rest, h.5)
 
 -- they are with the same nodes
@@ -66,7 +66,7 @@ read_at query (x ∷ made) (m ∷ missed) rows h up e c = elim (Contains-cons x 
 -- the answer of the node that misses what stands at these places
 abbrev pub AnsweredBy : Query → List Exchange → ℕ → Found → Type 0
 AnsweredBy query made node found =
-    (e : Exchange) × (missing : List Asked) × (one : List Group) × Contains made e × (e.node ≡ node) × Answers query e missing one × TellsPlaces found missing
+    (e : Exchange) × (missing : List Asked) × (one : List Group) × Contains made e × (e.node ≡ node) × Answers query e missing one × ReportsPlaces found missing
 
 pub answered_by : (query : Query) (made : List Exchange) (missed : List Missed) (rows : List Group) → AreRead query made missed rows → (node : ℕ) (found : Found) → missed_of missed node ≡ Some found
     → AnsweredBy query made node found
@@ -75,9 +75,9 @@ answered_by query [] (m ∷ missed) rows h node found is = absurd h
 answered_by query (e ∷ made) [] rows h node found is = absurd h
 answered_by query (e ∷ made) (m ∷ missed) rows h node found is = at (m.0 == node) refl (answered_by query made missed h.1 h.4 node found)
   where
-    here : (f : Option Found) → f ≡ Some found → IsRead query e f h.0 → (missing : List Asked) × Answers query e missing h.0 × TellsPlaces found missing
+    here : (f : Option Found) → f ≡ Some found → IsRead query e f h.0 → (missing : List Asked) × Answers query e missing h.0 × ReportsPlaces found missing
     here None same r = absurd (cc)
-    here (Some g) same r = (r.0, r.1, subst (λ (f : Found). TellsPlaces f r.0) (same_Some g found same) r.2)
+    here (Some g) same r = (r.0, r.1, subst (λ (f : Found). ReportsPlaces f r.0) (same_Some g found same) r.2)
 
     at : (b : Bool) → (m.0 == node) ≡ b → (missed_of missed node ≡ Some found → AnsweredBy query made node found) → AnsweredBy query (e ∷ made) node found
     at true b rest =
@@ -112,24 +112,24 @@ pub right_lacks : {F : Type 0} (query : Query) (left right result : Result (Opti
 right_lacks {F} query left right result fault e is s t m n h k =
     subst (λ (r : Result (Option Partial) F). Reads query (s ++ t) (m ++ n) r) (sym is) (any_right MayLack s t (subst (λ (r : Result (Option Partial) F). Reads query t n r) e k))
 
-some_came : (query : Query) (made : List Exchange) (told : Option Partial) → IfSome told (λ p. IsPartialFor query p × Any MayLack made) → IsSome told → Any MayLack made
+some_came : (query : Query) (made : List Exchange) (reported : Option Partial) → IfSome reported (λ p. IsPartialFor query p × Any MayLack made) → IsSome reported → Any MayLack made
 some_came query made None h some = absurd (false≢true some)
 some_came query made (Some p) h some = h.1
 
 -- both halves, merged
 pub both_read : {F : Type 0} (query : Query) (left right : Option Partial) (l r result : Result (Option Partial) F) → l ≡ Ok left → r ≡ Ok right
-    → IfOk result (λ both. (a b : List Group) → TellsIf query a left → TellsIf query b right → TellsIf query (a ++ b) both) → IfOk result (λ both. IfSome both (λ p. IsPartialFor query p × (IsSome left ⊎ IsSome right)))
+    → IfOk result (λ both. (a b : List Group) → ReportsIf query a left → ReportsIf query b right → ReportsIf query (a ++ b) both) → IfOk result (λ both. IfSome both (λ p. IsPartialFor query p × (IsSome left ⊎ IsSome right)))
     → OnErr result (IsSome left) → BothRead query l r result
-both_read {F} query left right l r result el er told some err s t m n h k =
-    at result told some err (subst (λ (x : Result (Option Partial) F). Reads query s m x) el h) (subst (λ (x : Result (Option Partial) F). Reads query t n x) er k)
+both_read {F} query left right l r result el er reported some err s t m n h k =
+    at result reported some err (subst (λ (x : Result (Option Partial) F). Reads query s m x) el h) (subst (λ (x : Result (Option Partial) F). Reads query t n x) er k)
   where
-    at : (result : Result (Option Partial) F) → IfOk result (λ both. (a b : List Group) → TellsIf query a left → TellsIf query b right → TellsIf query (a ++ b) both)
+    at : (result : Result (Option Partial) F) → IfOk result (λ both. (a b : List Group) → ReportsIf query a left → ReportsIf query b right → ReportsIf query (a ++ b) both)
         → IfOk result (λ both. IfSome both (λ p. IsPartialFor query p × (IsSome left ⊎ IsSome right))) → OnErr result (IsSome left)
         → Reads {F = F} query s m (Ok left) → Reads {F = F} query t n (Ok right) → Reads {F = F} query (s ++ t) (m ++ n) result
-    at (Err fault) told some err h k = any_left MayLack s t (some_came query s left h.1 err)
-    at (Ok None) told some err h k = ((h.0.0 ++ k.0.0, read_both query s t m n h.0.0 k.0.0 h.0.1 k.0.1, told h.0.0 k.0.0 h.0.2 k.0.2), tt)
-    at (Ok (Some p)) told some err h k = (
-      (h.0.0 ++ k.0.0, read_both query s t m n h.0.0 k.0.0 h.0.1 k.0.1, told h.0.0 k.0.0 h.0.2 k.0.2),
+    at (Err fault) reported some err h k = any_left MayLack s t (some_came query s left h.1 err)
+    at (Ok None) reported some err h k = ((h.0.0 ++ k.0.0, read_both query s t m n h.0.0 k.0.0 h.0.1 k.0.1, reported h.0.0 k.0.0 h.0.2 k.0.2), tt)
+    at (Ok (Some p)) reported some err h k = (
+      (h.0.0 ++ k.0.0, read_both query s t m n h.0.0 k.0.0 h.0.1 k.0.1, reported h.0.0 k.0.0 h.0.2 k.0.2),
       (some.0, elim some.1 [ inl one ↦ any_left MayLack s t (some_came query s left h.1 one) | inr other ↦ any_right MayLack s t (some_came query t right k.1 other) ]),
     )
 
@@ -138,28 +138,28 @@ both_read {F} query left right l r result el er told some err s t m n h k =
 pub empty_left : (left right : Partial) → left.groups ≡ [] → left.kinds ≡ right.kinds → IsPartial right → IsMerge left.kinds left.groups right.groups right.groups
 empty_left left right none same valid =
     subst (λ (gs : List Group). IsResult left.kinds gs right.groups) (sym (ap (λ (gs : List Group). gs ++ right.groups) none))
-    (subst (λ (ks : List AggregatorKind). IsResult ks right.groups right.groups) (sym same) (tells_itself right valid))
+    (subst (λ (ks : List AggregatorKind). IsResult ks right.groups right.groups) (sym same) (reports_itself right valid))
 
 pub empty_right : (left right : Partial) → right.groups ≡ [] → IsPartial left → IsMerge left.kinds left.groups right.groups left.groups
 empty_right left right none valid =
-    subst (λ (gs : List Group). IsResult left.kinds gs left.groups) (sym (ap (λ (gs : List Group). left.groups ++ gs) none ∙ append-nil left.groups)) (tells_itself left valid)
+    subst (λ (gs : List Group). IsResult left.kinds gs left.groups) (sym (ap (λ (gs : List Group). left.groups ++ gs) none ∙ append-nil left.groups)) (reports_itself left valid)
 
 pub nothing : {X : Type 0} (xs : List X) → length xs ≡ 0 → xs ≡ []
 nothing [] e = refl
 nothing (x ∷ xs) e = absurd (omega arith)
 
 -- a partial, and what is told beside it
-pub told_beside : (query : Query) (r : Option Partial) (left right both : Partial) → r ≡ Some right → left.kinds ≡ kinds_of query → IsMerge left.kinds left.groups right.groups both.groups
-    → (a b : List Group) → IsResult (kinds_of query) a left.groups → TellsIf query b r → IsResult (kinds_of query) (a ++ b) both.groups
-told_beside query r left right both there kinds merge a b h k =
-    merge_of_results (kinds_of query) a b left.groups right.groups both.groups h (subst (TellsIf query b) there k)
+pub reported_beside : (query : Query) (r : Option Partial) (left right both : Partial) → r ≡ Some right → left.kinds ≡ kinds_of query → IsMerge left.kinds left.groups right.groups both.groups
+    → (a b : List Group) → IsResult (kinds_of query) a left.groups → ReportsIf query b r → IsResult (kinds_of query) (a ++ b) both.groups
+reported_beside query r left right both there kinds merge a b h k =
+    merge_of_results (kinds_of query) a b left.groups right.groups both.groups h (subst (ReportsIf query b) there k)
     (subst (λ (ks : List AggregatorKind). IsMerge ks left.groups right.groups both.groups) kinds merge)
 
-pub told_both : (query : Query) (l r : Option Partial) (left right both : Partial) → l ≡ Some left → r ≡ Some right → IfSome l (IsPartialFor query) → IsMerge left.kinds left.groups right.groups both.groups
-    → (a b : List Group) → TellsIf query a l → TellsIf query b r → IsResult (kinds_of query) (a ++ b) both.groups
-told_both query l r left right both here there of merge a b h k =
+pub reported_both : (query : Query) (l r : Option Partial) (left right both : Partial) → l ≡ Some left → r ≡ Some right → IfSome l (IsPartialFor query) → IsMerge left.kinds left.groups right.groups both.groups
+    → (a b : List Group) → ReportsIf query a l → ReportsIf query b r → IsResult (kinds_of query) (a ++ b) both.groups
+reported_both query l r left right both here there of merge a b h k =
     let of_left : IsPartialFor query left = subst (λ (o : Option Partial). IfSome o (IsPartialFor query)) here of in
-    told_beside query r left right both there of_left.kinds merge a b (subst (TellsIf query a) here h) k
+    reported_beside query r left right both there of_left.kinds merge a b (subst (ReportsIf query a) here h) k
 
 -- ---- what one node gives
 
@@ -183,14 +183,14 @@ pub one_lost : (query : Query) (sub : SubQuery) (came : Came) (node : ℕ) → s
     → Reads {F = Unit {0}} query (exchange_of sub came node ∷ []) ((node, None) ∷ []) (Ok None)
 one_lost query sub came node of lost = (([], ([], [], refl, (subst (λ (q : Query). IsLost q (exchange_of sub came node)) of (lost node), refl), refl, refl), refl), tt)
 
-pub one_told : (query : Query) (sub : SubQuery) (came : Came) (node : ℕ) (found : Found) (p : Partial) → sub.query ≡ query
-    → (missing : List Asked) × ((node : ℕ) → Answers sub.query (exchange_of sub came node) missing p.groups) × TellsPlaces found missing → IsPartialFor sub.query p → IsPartial p
+pub one_reported : (query : Query) (sub : SubQuery) (came : Came) (node : ℕ) (found : Found) (p : Partial) → sub.query ≡ query
+    → (missing : List Asked) × ((node : ℕ) → Answers sub.query (exchange_of sub came node) missing p.groups) × ReportsPlaces found missing → IsPartialFor sub.query p → IsPartial p
     → Reads {F = Unit {0}} query (exchange_of sub came node ∷ []) ((node, Some found) ∷ []) (Ok (Some p))
-one_told query sub came node found p of answer for valid =
+one_reported query sub came node found p of answer for valid =
     let mine : IsPartialFor query p = subst (λ (q : Query). IsPartialFor q p) of for in
-    let whole : IsResult (kinds_of query) p.groups p.groups = subst (λ (ks : List AggregatorKind). IsResult ks p.groups p.groups) mine.kinds (tells_itself p valid) in
-    let told = subst (λ (q : Query). Answers q (exchange_of sub came node) answer.0 p.groups) of (answer.1 node) in (
-      (p.groups, (p.groups, [], refl, (answer.0, told, answer.2), refl, sym (append-nil p.groups)), whole),
+    let whole : IsResult (kinds_of query) p.groups p.groups = subst (λ (ks : List AggregatorKind). IsResult ks p.groups p.groups) mine.kinds (reports_itself p valid) in
+    let reported = subst (λ (q : Query). Answers q (exchange_of sub came node) answer.0 p.groups) of (answer.1 node) in (
+      (p.groups, (p.groups, [], refl, (answer.0, reported, answer.2), refl, sym (append-nil p.groups)), whole),
       (mine, one_lacks sub came node (answer_lacks sub came answer.0 p.groups answer.1)),
     )
 
@@ -310,12 +310,12 @@ both_sent step query first next count asks ask ask' old front back new new' miss
 
 -- ---- what is told beside a partial
 
-pub told_beside_if : {F : Type 0} (query : Query) (o : Option Partial) (left right : Partial) (r : Result Partial F) → o ≡ Some right → left.kinds ≡ kinds_of query → IfOk r (λ both. IsMerge left.kinds left.groups right.groups both.groups)
-    → IfOk r (λ new. (a b : List Group) → IsResult (kinds_of query) a left.groups → TellsIf query b o → IsResult (kinds_of query) (a ++ b) new.groups)
-told_beside_if query o left right (Ok both) there kinds merge = told_beside query o left right both there kinds merge
-told_beside_if query o left right (Err fault) there kinds merge = tt
+pub reported_beside_if : {F : Type 0} (query : Query) (o : Option Partial) (left right : Partial) (r : Result Partial F) → o ≡ Some right → left.kinds ≡ kinds_of query → IfOk r (λ both. IsMerge left.kinds left.groups right.groups both.groups)
+    → IfOk r (λ new. (a b : List Group) → IsResult (kinds_of query) a left.groups → ReportsIf query b o → IsResult (kinds_of query) (a ++ b) new.groups)
+reported_beside_if query o left right (Ok both) there kinds merge = reported_beside query o left right both there kinds merge
+reported_beside_if query o left right (Err fault) there kinds merge = tt
 
-pub nothing_beside : (query : Query) (o : Option Partial) (p : Partial) → o ≡ None → (a b : List Group) → IsResult (kinds_of query) a p.groups → TellsIf query b o → IsResult (kinds_of query) (a ++ b) p.groups
+pub nothing_beside : (query : Query) (o : Option Partial) (p : Partial) → o ≡ None → (a b : List Group) → IsResult (kinds_of query) a p.groups → ReportsIf query b o → IsResult (kinds_of query) (a ++ b) p.groups
 nothing_beside query o p e a b h k =
-    let none : b ≡ [] = subst (TellsIf query b) e k in
+    let none : b ≡ [] = subst (ReportsIf query b) e k in
     subst (λ (rows : List Group). IsResult (kinds_of query) rows p.groups) (sym (ap (λ (xs : List Group). a ++ xs) none ∙ append-nil a)) h

@@ -16,7 +16,7 @@ use Rattle.druid_base.proofs.ListLemmas.{Contains-here}
 use Rattle.druid_base.proofs.MemberLemmas.{Contains-map, Contains-map_back, Contains-nil}
 use Rattle.druid_query.specs.Asked.{Asked}
 use Rattle.druid_broker_scatter.specs.Slices.{Slices, NoneEmpty, slices_of}
-use Rattle.druid_broker_scatter.specs.Waiting.{Waiting, Ask, IsRound, wanted_of}
+use Rattle.druid_broker_scatter.specs.Pending.{PendingSlice, Ask, IsRound, wanted_of}
 use Rattle.druid_broker_scatter.proofs.AskedLemmas.{wanted_back}
 
 -- ---- the first piece of a node
@@ -54,7 +54,7 @@ some_in [] some = absurd (omega arith)
 some_in (x ∷ xs) some = (x, Contains-here x xs)
 
 -- an entry has what its node is asked for
-entry_is : (round : ℕ) (waits : List Waiting) (slices : Slices) → tree.IsOrdered nat_cmp slices → ((n : ℕ) → slices_of slices n ≡ wanted_of round waits n) → NoneEmpty slices
+entry_is : (round : ℕ) (waits : List PendingSlice) (slices : Slices) → tree.IsOrdered nat_cmp slices → ((n : ℕ) → slices_of slices n ≡ wanted_of round waits n) → NoneEmpty slices
     → (n : ℕ) (v : Vec Asked Global) → Contains slices.entries (n, v) → (v.items ≡ wanted_of round waits n) × (a : Asked) × Contains v.items a
 entry_is round waits slices ordered wanted some n v c =
     let there = (btree_map_get_iff nat_cmp_total exact_unsigned slices ordered n v).1 c in
@@ -70,7 +70,7 @@ has_entry slices ordered n a c = at (tree.get nat_cmp slices n) refl c
     at (Some v) e c = (v, (btree_map_get_iff nat_cmp_total exact_unsigned slices ordered n v).0 e)
 
 -- the asks of what each node is asked for
-pub is_round : (round : ℕ) (waits : List Waiting) (slices : Slices) (asks : List Ask) → tree.IsOrdered nat_cmp slices → ((n : ℕ) → slices_of slices n ≡ wanted_of round waits n) → NoneEmpty slices
+pub is_round : (round : ℕ) (waits : List PendingSlice) (slices : Slices) (asks : List Ask) → tree.IsOrdered nat_cmp slices → ((n : ℕ) → slices_of slices n ≡ wanted_of round waits n) → NoneEmpty slices
     → asks ≡ map (λ e. (e.0, e.1.items)) slices.entries → IsRound round waits asks
 is_round round waits slices asks ordered wanted some is = rw is (record {
   rising = subst IsStrictlyIncreasing (sym (nodes_are slices.entries)) (IsStrictlyIncreasing-from_sorted (tree.keys slices) ordered);

@@ -11,7 +11,7 @@ use Rattle.druid_query.specs.Asked.{Asked}
 use Rattle.druid_query.specs.Query.{Query}
 use Rattle.druid_broker_scatter.specs.Plan.{Pair, place_cmp}
 use Rattle.druid_broker_scatter.specs.Gathered.{Exchange, Asks}
-use Rattle.druid_broker_scatter.specs.Waiting.{Waiting, Ask, AreOrdered, AreAskedBefore, AsksAt, Holds, IsRound, ask_of, wanted_of}
+use Rattle.druid_broker_scatter.specs.Pending.{PendingSlice, Ask, AreOrdered, AreAskedBefore, AsksAt, Holds, IsRound, ask_of, wanted_of}
 use Rattle.druid_broker_scatter.proofs.AskedLemmas.{contains_get, get_append, get_contains, get_front, wanted_back, wanted_by}
 use Rattle.druid_broker_scatter.proofs.StateLemmas.{wanted_sorted}
 
@@ -24,9 +24,9 @@ rises f xs i j x y up less at there =
     omega (arith, first, second, below)
 
 -- exchanges of a round over what is left, whatever came before
-module _ (query : Query) (order : List ℕ → List ℕ) (pairs : List Pair) (waits left : List Waiting) (round : ℕ) (exchanges more : List Exchange) (o : AreOrdered order pairs waits)
+module _ (query : Query) (order : List ℕ → List ℕ) (pairs : List Pair) (waits left : List PendingSlice) (round : ℕ) (exchanges more : List Exchange) (o : AreOrdered order pairs waits)
     (h : Holds query waits left round exchanges) (r : IsRound round left (map ask_of more)) where
-  pub in_waits : (w : Waiting) → Contains left w → Contains waits w
+  pub in_waits : (w : PendingSlice) → Contains left w → Contains waits w
   in_waits w c = ((h.left_are w).0 c).0
 
   -- the exchange asks for what is wanted of its node
@@ -34,30 +34,30 @@ module _ (query : Query) (order : List ℕ → List ℕ) (pairs : List Pair) (wa
   of_node e c = (r.each (ask_of e) (Contains-map_back ask_of more e c)).0
 
   -- a piece that it asks for waits, and has its turn
-  pub waits_for : (e : Exchange) (a : Asked) → Contains more e → Contains e.asked a → (w : Waiting) × Contains left w × (w.asked ≡ a) × (slice_get w.order round ≡ Some e.node)
+  pub waits_for : (e : Exchange) (a : Asked) → Contains more e → Contains e.asked a → (w : PendingSlice) × Contains left w × (w.asked ≡ a) × (slice_get w.order round ≡ Some e.node)
   waits_for e a c asks = wanted_by round e.node left a (subst (λ (xs : List Asked). Contains xs a) (of_node e c) asks)
 
-  pub has_turn_now : (e : Exchange) (w : Waiting) → Contains more e → Contains waits w → Contains e.asked w.asked → Contains left w × (slice_get w.order round ≡ Some e.node)
+  pub has_turn_now : (e : Exchange) (w : PendingSlice) → Contains more e → Contains waits w → Contains e.asked w.asked → Contains left w × (slice_get w.order round ≡ Some e.node)
   has_turn_now e w c in_w asks =
       let v = waits_for e w.asked c asks in
-      subst (λ (u : Waiting). Contains left u × (slice_get u.order round ≡ Some e.node)) (o.own v.0 w (in_waits v.0 v.1) in_w v.2) (v.1, v.3)
+      subst (λ (u : PendingSlice). Contains left u × (slice_get u.order round ≡ Some e.node)) (o.own v.0 w (in_waits v.0 v.1) in_w v.2) (v.1, v.3)
 
   -- a piece that waits is asked of the node whose turn it is
-  pub asked_now : (w : Waiting) (node : ℕ) → Contains left w → slice_get w.order round ≡ Some node → (e : Exchange) × Contains more e × Asks e w.asked node
+  pub asked_now : (w : PendingSlice) (node : ℕ) → Contains left w → slice_get w.order round ≡ Some node → (e : Exchange) × Contains more e × Asks e w.asked node
   asked_now w node c at =
       let ask = Contains-map (λ (ask : Ask). ask.0) (map ask_of more) node (r.all w node c at) in
       let e = Contains-map ask_of more ask.0 ask.1 in
       let same : e.0.node ≡ node = ap (λ (ask : Ask). ask.0) e.2 ∙ ask.2 in
       (e.0, e.1, (same, subst (λ (xs : List Asked). Contains xs w.asked) (sym (of_node e.0 e.1)) (wanted_back round e.0.node left w c (at ∙ ap Some (sym same)))))
 
-  is_now : (e : Exchange) (w : Waiting) (s : ℕ) → Contains more e → Contains waits w → AsksAt e w s → s ≡ round
+  is_now : (e : Exchange) (w : PendingSlice) (s : ℕ) → Contains more e → Contains waits w → AsksAt e w s → s ≡ round
   is_now e w s c in_w asks = (o.each w in_w).once s round e.node asks.1 (has_turn_now e w c in_w asks.0).1
 
   -- what was asked before was asked in a round before
-  was_before : (e : Exchange) (w : Waiting) (s : ℕ) → Contains exchanges e → Contains waits w → AsksAt e w s → s < round
+  was_before : (e : Exchange) (w : PendingSlice) (s : ℕ) → Contains exchanges e → Contains waits w → AsksAt e w s → s < round
   was_before e w s c in_w asks =
       let p = h.asked.planned e w.asked c asks.0 in
-      let there = subst (λ (u : Waiting). slice_get u.order p.1 ≡ Some e.node) (o.own p.0 w p.2 in_w p.3) p.4 in
+      let there = subst (λ (u : PendingSlice). slice_get u.order p.1 ≡ Some e.node) (o.own p.0 w p.2 in_w p.3) p.4 in
       subst (λ (n : ℕ). n < round) ((o.each w in_w).once p.1 s e.node there asks.1) p.5
 
   -- the round asks a node for no piece that it was asked for before

@@ -14,19 +14,19 @@ use Rattle.druid_partial.specs.Partials.{Partial, kinds_of}
 use Rattle.druid_link.specs.Links.{Came}
 use Rattle.druid_broker_scatter.specs.Plan.{Pair, place_cmp}
 use Rattle.druid_broker_scatter.specs.Gathered.{Exchange, AtOnePlace, Gives, AreMade, AreAsked}
-use Rattle.druid_broker_scatter.specs.Waiting.{Waiting, State, Ask, AreBelow, AreOrdered, AreRead, AreSent, AsksOn, Found, Goes, HaveLinks, Holds, IsRead, IsRound, IsState, MayLackMemory, Missed, TellsIf, ask_of, is_missed, missed_of, pieces_of, place_of, stays, stays_at}
+use Rattle.druid_broker_scatter.specs.Pending.{PendingSlice, State, Ask, AreBelow, AreOrdered, AreRead, AreSent, AsksOn, Found, Goes, HaveLinks, Holds, IsRead, IsRound, IsState, MayLackMemory, Missed, ReportsIf, ask_of, is_missed, missed_of, pieces_of, place_of, stays, stays_at}
 use Rattle.druid_broker_scatter.proofs.AskedLemmas.{are_asked, get_append, get_contains, wanted_back, wanted_by}
 use Rattle.druid_broker_scatter.proofs.MadeLemmas.{made_of_led, none_made}
-use Rattle.druid_broker_scatter.proofs.ReadLemmas.{answered_by, read_at, read_nodes, read_tells}
+use Rattle.druid_broker_scatter.proofs.ReadLemmas.{answered_by, read_at, read_nodes, read_reports}
 use Rattle.druid_broker_scatter.proofs.RequestLemmas.{written_all}
 use Rattle.druid_broker_scatter.proofs.RoundLemmas as asked
-use Rattle.druid_broker_scatter.proofs.StateLemmas.{one_piece, sorted_filter, tell_both}
-use Rattle.druid_broker_scatter.proofs.TellLemmas.{answers_same}
+use Rattle.druid_broker_scatter.proofs.StateLemmas.{one_piece, sorted_filter, report_both}
+use Rattle.druid_broker_scatter.proofs.ReportLemmas.{answers_same}
 
 module _ (query : Query) (round : ℕ) (old new : State) (more : List Exchange) (missed : List Missed) (rows : List Group) (r : IsRound round old.waiting (map ask_of more)) (read : AreRead query more missed rows)
     (kept : new.waiting ≡ filter (stays round missed) old.waiting) (merged : (a : List Group) → IsResult (kinds_of query) a old.partial.groups → IsResult (kinds_of query) (a ++ rows) new.partial.groups)
-    (order : List ℕ → List ℕ) (pairs : List Pair) (waits : List Waiting) (exchanges : List Exchange) (o : AreOrdered order pairs waits) (s : IsState query waits old round exchanges) where
-  abbrev left : List Waiting
+    (order : List ℕ → List ℕ) (pairs : List Pair) (waits : List PendingSlice) (exchanges : List Exchange) (o : AreOrdered order pairs waits) (s : IsState query waits old round exchanges) where
+  abbrev left : List PendingSlice
   left = old.waiting
 
   abbrev h : Holds query waits left round exchanges
@@ -36,7 +36,7 @@ module _ (query : Query) (round : ℕ) (old new : State) (more : List Exchange) 
   in_order e c = (asked.asked_more query order pairs waits left round exchanges more o h r).in_order e (Contains-append_right exchanges more e c)
 
   -- what waits on was not given
-  ungiven : (w : Waiting) → Contains left w → stays round missed w ≡ true → (e : Exchange) → Contains more e → Gives query e w.asked → ⊥
+  ungiven : (w : PendingSlice) → Contains left w → stays round missed w ≡ true → (e : Exchange) → Contains more e → Gives query e w.asked → ⊥
   ungiven w in_left t e in_it g = by_answer (missed_of missed e.node) (read_at query more missed rows read r.rising e in_it) here
     where
       here : is_missed (missed_of missed e.node) (place_of w.asked) ≡ true
@@ -52,7 +52,7 @@ module _ (query : Query) (round : ℕ) (old new : State) (more : List Exchange) 
           g.4 (subst (λ (m : List Asked). Contains m w.asked) same (subst (Contains answer.1.0) piece stands.1))
 
   -- what was not given waits on
-  waits_on : (w : Waiting) → Contains left w → ((e : Exchange) → Contains more e → Gives query e w.asked → ⊥) → stays round missed w ≡ true
+  waits_on : (w : PendingSlice) → Contains left w → ((e : Exchange) → Contains more e → Gives query e w.asked → ⊥) → stays round missed w ≡ true
   waits_on w in_left none = of_node (slice_get w.order round) refl
     where
       of_answer : (node : ℕ) (found : Found) → slice_get w.order round ≡ Some node → missed_of missed node ≡ Some found → (b : Bool) → found (place_of w.asked) ≡ b → found (place_of w.asked) ≡ true
@@ -87,7 +87,7 @@ module _ (query : Query) (round : ℕ) (old new : State) (more : List Exchange) 
         ]
       ]
     where
-      waits_for : (e : Exchange) → Contains more e → Contains e.asked a → (w : Waiting) × Contains left w × (w.asked ≡ a) × (slice_get w.order round ≡ Some e.node)
+      waits_for : (e : Exchange) → Contains more e → Contains e.asked a → (w : PendingSlice) × Contains left w × (w.asked ≡ a) × (slice_get w.order round ≡ Some e.node)
       waits_for e c asks = asked.waits_for query order pairs waits left round exchanges more o h r e a c asks
 
       apart : (x y : Exchange) → Contains exchanges x → Contains more y → Gives query x a → Gives query y a → ⊥
@@ -114,10 +114,10 @@ module _ (query : Query) (round : ℕ) (old new : State) (more : List Exchange) 
       ),
       λ c.
           let in_left = (h.left_are w).1 (c.0, λ e in_it g. c.1 e (Contains-append_left exchanges more e in_it) g) in
-          subst (λ (ws : List Waiting). Contains ws w) (sym kept)
+          subst (λ (ws : List PendingSlice). Contains ws w) (sym kept)
           (in_filter (stays round missed) left w in_left (waits_on w in_left (λ e in_it g. c.1 e (Contains-append_right exchanges more e in_it) g))),
     );
-    ordered = subst (λ (ws : List Waiting). IsStrictlySortedBy place_cmp (pieces_of ws)) (sym kept) (sorted_filter place_cmp (λ (w : Waiting). w.asked) (stays round missed) left h.ordered);
+    ordered = subst (λ (ws : List PendingSlice). IsStrictlySortedBy place_cmp (pieces_of ws)) (sym kept) (sorted_filter place_cmp (λ (w : PendingSlice). w.asked) (stays round missed) left h.ordered);
     done = λ w t n c at before. elim (earlier t before) [
       | inl less ↦ let d = h.done w t n (was_left w c).0 at less in (d.0, Contains-append_left exchanges more d.0 d.1, d.2)
       | inr now ↦
@@ -128,8 +128,8 @@ module _ (query : Query) (round : ℕ) (old new : State) (more : List Exchange) 
     given_once = given_once;
   }
     where
-      was_left : (w : Waiting) → Contains new.waiting w → Contains left w × (stays round missed w ≡ true)
-      was_left w c = from_filter (stays round missed) left w (subst (λ (ws : List Waiting). Contains ws w) kept c)
+      was_left : (w : PendingSlice) → Contains new.waiting w → Contains left w × (stays round missed w ≡ true)
+      was_left w c = from_filter (stays round missed) left w (subst (λ (ws : List PendingSlice). Contains ws w) kept c)
 
       earlier : (t : ℕ) → t < round + 1 → (t < round) ⊎ (t ≡ round)
       earlier t before = grind arith
@@ -138,18 +138,18 @@ module _ (query : Query) (round : ℕ) (old new : State) (more : List Exchange) 
   settled_state = record {
     holds = settled_holds;
     rows = s.rows ++ rows;
-    reported = tell_both query exchanges more s.rows rows s.reported (read_tells query more missed rows read);
+    reported = report_both query exchanges more s.rows rows s.reported (read_reports query more missed rows read);
     merged = merged s.rows s.merged;
   }
 
 -- ---- over links
 
 -- a round whose exchanges are lent
-pub round_lent : {X : Type 0} (f : X → Ask) (round : ℕ) (waits seen : List Waiting) (own lent : List X) → seen ≡ waits → lent ≡ own → IsRound round seen (map f own) → IsRound round waits (map f lent)
-round_lent f round waits seen own lent same is r = subst (λ (ws : List Waiting). IsRound round ws (map f lent)) same (subst (λ (xs : List _). IsRound round seen (map f xs)) (sym is) r)
+pub round_borrowed : {X : Type 0} (f : X → Ask) (round : ℕ) (waits seen : List PendingSlice) (own borrowed : List X) → seen ≡ waits → borrowed ≡ own → IsRound round seen (map f own) → IsRound round waits (map f borrowed)
+round_borrowed f round waits seen own borrowed same is r = subst (λ (ws : List PendingSlice). IsRound round ws (map f borrowed)) same (subst (λ (xs : List _). IsRound round seen (map f xs)) (sym is) r)
 
 -- each node that a round asks has its link
-pub have_links : (round count : ℕ) (waits : List Waiting) (asks : List Ask) → IsRound round waits asks → AreBelow count waits → HaveLinks 0 count asks
+pub have_links : (round count : ℕ) (waits : List PendingSlice) (asks : List Ask) → IsRound round waits asks → AreBelow count waits → HaveLinks 0 count asks
 have_links round count waits asks r below = record {
   rising = r.rising;
   each = λ ask c.
@@ -160,43 +160,43 @@ have_links round count waits asks r below = record {
 }
 
 -- what waits on had its links before
-pub still_below : (count count' : ℕ) (waits after : List Waiting) (test : Waiting → Bool) → AreBelow count waits → after ≡ filter test waits → count' ≡ count → AreBelow count' after
+pub still_below : (count count' : ℕ) (waits after : List PendingSlice) (test : PendingSlice → Bool) → AreBelow count waits → after ≡ filter test waits → count' ≡ count → AreBelow count' after
 still_below count count' waits after test below kept same w node c at =
-    subst (λ (n : ℕ). node < n) (sym same) (below w node (from_filter test waits w (subst (λ (ws : List Waiting). Contains ws w) kept c)).0 at)
+    subst (λ (n : ℕ). node < n) (sym same) (below w node (from_filter test waits w (subst (λ (ws : List PendingSlice). Contains ws w) kept c)).0 at)
 
 -- after a round that was read
-pub round_ok : {L F : Type 0} (step : L → List ℕ → Came → L → Type 0) (query : Query) (round : ℕ) (old new : List L) (state after : State) (asks : List Ask) (missed : List Missed) (told : Option Partial) → IsRound round state.waiting asks
-    → AreSent {F = F} step query 0 asks old new missed (Ok told) → after.waiting ≡ filter (stays round missed) state.waiting
-    → ((a b : List Group) → IsResult (kinds_of query) a state.partial.groups → TellsIf query b told → IsResult (kinds_of query) (a ++ b) after.partial.groups)
+pub round_ok : {L F : Type 0} (step : L → List ℕ → Came → L → Type 0) (query : Query) (round : ℕ) (old new : List L) (state after : State) (asks : List Ask) (missed : List Missed) (read_partial : Option Partial) → IsRound round state.waiting asks
+    → AreSent {F = F} step query 0 asks old new missed (Ok read_partial) → after.waiting ≡ filter (stays round missed) state.waiting
+    → ((a b : List Group) → IsResult (kinds_of query) a state.partial.groups → ReportsIf query b read_partial → IsResult (kinds_of query) (a ++ b) after.partial.groups)
     → (more : List Exchange) × AreMade step query more old new × Goes query round state after more
-round_ok step query round old new state after asks missed told r sent kept merged = (
+round_ok step query round old new state after asks missed read_partial r sent kept merged = (
   sent.made,
   made_of_led step query sent.made old new sent.led,
   settled_state query round state after sent.made missed sent.read.0.0 (subst (IsRound round state.waiting) (sym sent.of) r) sent.read.0.1 kept (λ a is. merged a sent.read.0.0 is sent.read.0.2),
 )
 
 -- what its answers miss is of the nodes that it asks
-missed_nodes : {L F : Type 0} (step : L → List ℕ → Came → L → Type 0) (query : Query) (old new : List L) (asks : List Ask) (missed : List Missed) (told : Option Partial) → AreSent {F = F} step query 0 asks old new missed (Ok told)
+missed_nodes : {L F : Type 0} (step : L → List ℕ → Came → L → Type 0) (query : Query) (old new : List L) (asks : List Ask) (missed : List Missed) (read_partial : Option Partial) → AreSent {F = F} step query 0 asks old new missed (Ok read_partial)
     → map (λ (m : Missed). m.0) missed ≡ map (λ (ask : Ask). ask.0) asks
-missed_nodes step query old new asks missed told sent = read_nodes query sent.made missed sent.read.0.0 sent.read.0.1 ∙ ap (map (λ (ask : Ask). ask.0)) sent.of
+missed_nodes step query old new asks missed read_partial sent = read_nodes query sent.made missed sent.read.0.0 sent.read.0.1 ∙ ap (map (λ (ask : Ask). ask.0)) sent.of
 
 -- the exchanges that were written in place, where a vector has them
-pub written_in : {L F X : Type 0} (step : L → List ℕ → Came → L → Type 0) (query : Query) (f : X → Ask) (g : X → Missed) (old new : List L) (n : ℕ) (own lent after there : List X) (told : Option Partial)
-    → AreSent {F = F} step query 0 (map f lent) old new (map g after) (Ok told) → length own ≡ n → lent ≡ own → there ≡ take n (after ++ drop (length after) own) → there ≡ after
-written_in step query f g old new n own lent after there told sent long is e =
-    let nodes = ap length (missed_nodes step query old new (map f lent) (map g after) told sent) in
-    let as_many : length after ≡ length lent =
-    omega (arith, nodes, length-map (map g after) (λ (m : Missed). m.0), length-map after g, length-map (map f lent) (λ (ask : Ask). ask.0), length-map lent f) in
+pub written_in : {L F X : Type 0} (step : L → List ℕ → Came → L → Type 0) (query : Query) (f : X → Ask) (g : X → Missed) (old new : List L) (n : ℕ) (own borrowed after there : List X) (read_partial : Option Partial)
+    → AreSent {F = F} step query 0 (map f borrowed) old new (map g after) (Ok read_partial) → length own ≡ n → borrowed ≡ own → there ≡ take n (after ++ drop (length after) own) → there ≡ after
+written_in step query f g old new n own borrowed after there read_partial sent long is e =
+    let nodes = ap length (missed_nodes step query old new (map f borrowed) (map g after) read_partial sent) in
+    let as_many : length after ≡ length borrowed =
+    omega (arith, nodes, length-map (map g after) (λ (m : Missed). m.0), length-map after g, length-map (map f borrowed) (λ (ask : Ask). ask.0), length-map borrowed f) in
     e ∙ written_all n own after long (as_many ∙ ap length is)
 
 -- what was kept, by what they miss
-pub kept_by : {X : Type 0} (g : X → Missed) (round : ℕ) (waits before kept : List Waiting) (after there : List X) → before ≡ waits → there ≡ after → kept ≡ filter (stays round (map g there)) before → kept ≡ filter (stays round (map g after)) waits
+pub kept_by : {X : Type 0} (g : X → Missed) (round : ℕ) (waits before kept : List PendingSlice) (after there : List X) → before ≡ waits → there ≡ after → kept ≡ filter (stays round (map g there)) before → kept ≡ filter (stays round (map g after)) waits
 kept_by g round waits before kept after there same is e = e ∙ (λ i. filter (stays round (map g (is i))) (same i))
 
 -- the nodes of what it misses rise
-pub missed_rise : {L F : Type 0} (step : L → List ℕ → Came → L → Type 0) (query : Query) (round : ℕ) (old new : List L) (waits : List Waiting) (asks : List Ask) (missed : List Missed) (told : Option Partial) → IsRound round waits asks
-    → AreSent {F = F} step query 0 asks old new missed (Ok told) → IsStrictlyIncreasing (map (λ (m : Missed). m.0) missed)
-missed_rise step query round old new waits asks missed told r sent = subst IsStrictlyIncreasing (sym (missed_nodes step query old new asks missed told sent)) r.rising
+pub missed_rise : {L F : Type 0} (step : L → List ℕ → Came → L → Type 0) (query : Query) (round : ℕ) (old new : List L) (waits : List PendingSlice) (asks : List Ask) (missed : List Missed) (read_partial : Option Partial) → IsRound round waits asks
+    → AreSent {F = F} step query 0 asks old new missed (Ok read_partial) → IsStrictlyIncreasing (map (λ (m : Missed). m.0) missed)
+missed_rise step query round old new waits asks missed read_partial r sent = subst IsStrictlyIncreasing (sym (missed_nodes step query old new asks missed read_partial sent)) r.rising
 
 -- where memory ran out
 abbrev pub RanOut : {L : Type 0} → (L → List ℕ → Came → L → Type 0) → Query → ℕ → State → List L → List L → Type 0
@@ -229,7 +229,7 @@ pub round_lacks : {L F : Type 0} (step : L → List ℕ → Came → L → Type 
 round_lacks step query round old new state asks missed fault r sent = ran_out step query round old new state asks missed (Err fault) r sent sent.read
 
 -- when what they tell was merged
-pub merge_lacks : {L F : Type 0} (step : L → List ℕ → Came → L → Type 0) (query : Query) (round : ℕ) (old new : List L) (state : State) (asks : List Ask) (missed : List Missed) (told : Option Partial) → IsRound round state.waiting asks
-    → AreSent {F = F} step query 0 asks old new missed (Ok told) → IsSome told → RanOut step query round state old new
+pub merge_lacks : {L F : Type 0} (step : L → List ℕ → Came → L → Type 0) (query : Query) (round : ℕ) (old new : List L) (state : State) (asks : List Ask) (missed : List Missed) (read_partial : Option Partial) → IsRound round state.waiting asks
+    → AreSent {F = F} step query 0 asks old new missed (Ok read_partial) → IsSome read_partial → RanOut step query round state old new
 merge_lacks step query round old new state asks missed None r sent some = absurd (false≢true some)
 merge_lacks step query round old new state asks missed (Some p) r sent some = ran_out step query round old new state asks missed (Ok (Some p)) r sent sent.read.1.1

@@ -12,16 +12,16 @@ use Rattle.druid_partial.specs.Groups.{Group, IsResult}
 use Rattle.druid_partial.specs.Partials.{Partial, HasNumbers, IsPartial, IsPartialFor, IsGroupFor, kinds_of}
 use Rattle.druid_partial.proofs.MergedLemmas.{settled}
 use Rattle.druid_broker_scatter.specs.Plan.{place_cmp}
-use Rattle.druid_broker_scatter.specs.Gathered.{Exchange, Answers, TellAll}
-use Rattle.druid_broker_scatter.specs.Waiting.{Waiting, pieces_of, wanted_of, has_turn, at_cmp, place_of}
+use Rattle.druid_broker_scatter.specs.Gathered.{Exchange, Answers, AllReport}
+use Rattle.druid_broker_scatter.specs.Pending.{PendingSlice, pieces_of, wanted_of, has_turn, at_cmp, place_of}
 use Rattle.druid_broker_scatter.proofs.AskedLemmas.{own_keys}
 use Rattle.druid_broker_scatter.proofs.WaitLemmas.{at_cmp-total}
 
 -- ---- partials
 
 -- the groups of a partial are the result over themselves
-pub tells_itself : (p : Partial) → IsPartial p → IsResult p.kinds p.groups p.groups
-tells_itself p valid = settled p.kinds p.groups valid.ordered (λ g c. All-contains (HasNumbers p.kinds) p.groups g valid.numbers c)
+pub reports_itself : (p : Partial) → IsPartial p → IsResult p.kinds p.groups p.groups
+reports_itself p valid = settled p.kinds p.groups valid.ordered (λ g c. All-contains (HasNumbers p.kinds) p.groups g valid.numbers c)
 
 -- an answer's groups are groups of the query
 pub partial_reported : (query : Query) (e : Exchange) (missing : List Asked) (p : Partial) → Answers query e missing p.groups → p.kinds ≡ kinds_of query → IsPartialFor query p
@@ -32,10 +32,10 @@ partial_reported query e missing p a kinds = record {
 
 -- ---- what is reported
 
-pub tell_both : (query : Query) (xs ys : List Exchange) (a b : List Group) → TellAll query xs a → TellAll query ys b → TellAll query (xs ++ ys) (a ++ b)
-tell_both query [] ys a b t u = subst (TellAll query ys) (sym (ap (λ (r : List Group). r ++ b) t)) u
-tell_both query (x ∷ xs) ys a b (inl t) u = inl (t.0, t.1, t.2 ++ b, t.3, tell_both query xs ys t.2 b t.4 u, ap (λ (r : List Group). r ++ b) t.5 ∙ append_assoc t.1 t.2 b)
-tell_both query (x ∷ xs) ys a b (inr t) u = inr (t.0, tell_both query xs ys a b t.1 u)
+pub report_both : (query : Query) (xs ys : List Exchange) (a b : List Group) → AllReport query xs a → AllReport query ys b → AllReport query (xs ++ ys) (a ++ b)
+report_both query [] ys a b t u = subst (AllReport query ys) (sym (ap (λ (r : List Group). r ++ b) t)) u
+report_both query (x ∷ xs) ys a b (inl t) u = inl (t.0, t.1, t.2 ++ b, t.3, report_both query xs ys t.2 b t.4 u, ap (λ (r : List Group). r ++ b) t.5 ∙ append_assoc t.1 t.2 b)
+report_both query (x ∷ xs) ys a b (inr t) u = inr (t.0, report_both query xs ys a b t.1 u)
 
 -- ---- order
 
@@ -66,5 +66,5 @@ sorted_filter R f p (x ∷ xs) s =
     elim (p x) as (λ b. IsStrictlySortedBy R (map f (cond b (x ∷ filter p xs) (filter p xs)))) [ true ↦ (kept_all f (λ y. R (f x) y ≡ Less) p xs s.0, more) | false ↦ more ]
 
 -- what a node is asked for is in the order of the plan
-pub wanted_sorted : (round node : ℕ) (left : List Waiting) → IsStrictlySortedBy place_cmp (pieces_of left) → IsStrictlySortedBy place_cmp (wanted_of round left node)
-wanted_sorted round node left s = sorted_filter place_cmp (λ (w : Waiting). w.asked) (has_turn round node) left s
+pub wanted_sorted : (round node : ℕ) (left : List PendingSlice) → IsStrictlySortedBy place_cmp (pieces_of left) → IsStrictlySortedBy place_cmp (wanted_of round left node)
+wanted_sorted round node left s = sorted_filter place_cmp (λ (w : PendingSlice). w.asked) (has_turn round node) left s

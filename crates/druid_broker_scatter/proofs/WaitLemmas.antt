@@ -17,7 +17,7 @@ use Rattle.druid_base.proofs.MemberLemmas.{Contains-later, Contains-map, Contain
 use Rattle.druid_base.proofs.MovedLemmas.{StandAlone, alone-permutation}
 use Rattle.druid_query.specs.Asked.{Asked}
 use Rattle.druid_broker_scatter.specs.Plan.{Pair, asked_of, place_cmp}
-use Rattle.druid_broker_scatter.specs.Waiting.{Waiting, Found, Missed, StandsOnce, IsOrdered, AreOrdered, StandsIn, at_cmp, is_missed, missed_of, place_of, pieces_of, stays, stays_at}
+use Rattle.druid_broker_scatter.specs.Pending.{PendingSlice, Found, Missed, StandsOnce, IsOrdered, AreOrdered, StandsIn, at_cmp, is_missed, missed_of, place_of, pieces_of, stays, stays_at}
 use Rattle.druid_broker_scatter.proofs.AskedLemmas.{own_keys, place_cmp-total}
 
 -- ---- orders
@@ -39,24 +39,24 @@ once_picked nodes order moved up i j n at there =
     alone-permutation (λ x y. x ≡ y) nodes order moved (rising_alone nodes up) i j n (slice_get_within order i n at) (slice_get_within order j n there)
     (get_or_from_slice_get order i n n at ∙ sym (get_or_from_slice_get order j n n there))
 
-pub all_ordered : (order : List ℕ → List ℕ) (pairs : List Pair) (waits : List Waiting) → IsStrictlySortedBy place_cmp (asked_of pairs) → pieces_of waits ≡ map (λ p. p.asked) pairs → All (IsOrdered order pairs) waits
+pub all_ordered : (order : List ℕ → List ℕ) (pairs : List Pair) (waits : List PendingSlice) → IsStrictlySortedBy place_cmp (asked_of pairs) → pieces_of waits ≡ map (λ p. p.asked) pairs → All (IsOrdered order pairs) waits
     → AreOrdered order pairs waits
 all_ordered order pairs waits s whole each = record {
   whole = whole;
   sorted = subst (IsStrictlySortedBy place_cmp) (sym whole) s;
   each = λ w c. All-contains (IsOrdered order pairs) waits w each c;
-  own = own_keys place_cmp place_cmp-total (λ (w : Waiting). w.asked) waits (subst (IsStrictlySortedBy place_cmp) (sym whole) s);
+  own = own_keys place_cmp place_cmp-total (λ (w : PendingSlice). w.asked) waits (subst (IsStrictlySortedBy place_cmp) (sym whole) s);
 }
 
-pub most_more : (waits : List Waiting) (k most new : ℕ) (x : Waiting) → k < length waits → x ≡ get_or waits k x → length x.order ≤ new → most ≤ new
-    → ((w : Waiting) → Contains (take k waits) w → length w.order ≤ most) → (w : Waiting) → Contains (take (k + 1) waits) w → length w.order ≤ new
+pub most_more : (waits : List PendingSlice) (k most new : ℕ) (x : PendingSlice) → k < length waits → x ≡ get_or waits k x → length x.order ≤ new → most ≤ new
+    → ((w : PendingSlice) → Contains (take k waits) w → length w.order ≤ most) → (w : PendingSlice) → Contains (take (k + 1) waits) w → length w.order ≤ new
 most_more waits k most new x within at here up below w c =
     elim (Contains-push_cases (take k waits) (get_or waits k x) w (subst (λ (xs : _). Contains xs w) (take_more waits k x within) c)) [
       | inl old ↦ let h = below w old in omega arith
-      | inr same ↦ subst (λ (v : Waiting). length v.order ≤ new) (at ∙ same) here
+      | inr same ↦ subst (λ (v : PendingSlice). length v.order ≤ new) (at ∙ same) here
     ]
 
-pub most_all : (waits : List Waiting) (k most : ℕ) → length waits ≤ k → ((w : Waiting) → Contains (take k waits) w → length w.order ≤ most) → (w : Waiting) → Contains waits w → length w.order ≤ most
+pub most_all : (waits : List PendingSlice) (k most : ℕ) → length waits ≤ k → ((w : PendingSlice) → Contains (take k waits) w → length w.order ≤ most) → (w : PendingSlice) → Contains waits w → length w.order ≤ most
 most_all waits k most over below w c = below w (subst (λ (xs : _). Contains xs w) (sym (take_all k waits over)) c)
 
 -- ---- places
@@ -91,14 +91,14 @@ place_step asked k item key p old new within at place e was =
     (place_more (take k asked) item p (is_eq (at_cmp (place_of item) p)) old new refl (e ∙ ap (λ (q : ℕ × ℕ). cond (is_eq (at_cmp q p)) true old) place) was)
 
 -- a pair more waits
-pub waits_more : (pairs : List Pair) (old new : List Waiting) (k : ℕ) (p : Pair) (w : Waiting) → k < length pairs → p ≡ get_or pairs k p → new ≡ old ++ w ∷ [] → w.asked ≡ p.asked
+pub waits_more : (pairs : List Pair) (old new : List PendingSlice) (k : ℕ) (p : Pair) (w : PendingSlice) → k < length pairs → p ≡ get_or pairs k p → new ≡ old ++ w ∷ [] → w.asked ≡ p.asked
     → pieces_of old ≡ map (λ p. p.asked) (take k pairs) → pieces_of new ≡ map (λ p. p.asked) (take (k + 1) pairs)
 waits_more pairs old new k p w within at e is so_far =
-    ap pieces_of e ∙ map_push (λ (w : Waiting). w.asked) old w ∙ ap (λ (xs : List Asked). xs ++ w.asked ∷ []) so_far
+    ap pieces_of e ∙ map_push (λ (w : PendingSlice). w.asked) old w ∙ ap (λ (xs : List Asked). xs ++ w.asked ∷ []) so_far
     ∙ ap (λ (a : Asked). map (λ (p : Pair). p.asked) (take k pairs) ++ a ∷ []) (is ∙ ap (λ (p : Pair). p.asked) at)
     ∙ sym (map_more (λ (p : Pair). p.asked) pairs k p within)
 
-pub is_ordered : (order : List ℕ → List ℕ) (pairs : List Pair) (k : ℕ) (p : Pair) (w : Waiting) → k < length pairs → p ≡ get_or pairs k p → w.asked ≡ p.asked → w.order ≡ order p.nodes → IsPermutation p.nodes w.order
+pub is_ordered : (order : List ℕ → List ℕ) (pairs : List Pair) (k : ℕ) (p : Pair) (w : PendingSlice) → k < length pairs → p ≡ get_or pairs k p → w.asked ≡ p.asked → w.order ≡ order p.nodes → IsPermutation p.nodes w.order
     → StandsOnce w.order → IsOrdered order pairs w
 is_ordered order pairs k p w within at is ordered moved once = record {
   pair = p;
@@ -109,7 +109,7 @@ is_ordered order pairs k p w within at is ordered moved once = record {
   once = once;
 }
 
-pub all_waiting : (pairs : List Pair) (waits : List Waiting) (k : ℕ) → length pairs ≤ k → pieces_of waits ≡ map (λ p. p.asked) (take k pairs) → pieces_of waits ≡ map (λ p. p.asked) pairs
+pub all_waiting : (pairs : List Pair) (waits : List PendingSlice) (k : ℕ) → length pairs ≤ k → pieces_of waits ≡ map (λ p. p.asked) (take k pairs) → pieces_of waits ≡ map (λ p. p.asked) pairs
 all_waiting pairs waits k over so_far = so_far ∙ ap (map (λ (p : Pair). p.asked)) (take_all k pairs over)
 
 -- ---- what an answer misses, by its node
@@ -179,5 +179,5 @@ not_found {X} g xs node i up search' = none_found (map g xs) node (λ m c same.
     ]
 
 -- whether the piece waits on, by what the exchange with its node misses
-pub stays_so : (round : ℕ) (missed : List Missed) (w : Waiting) (node : ℕ) (found : Option Found) → slice_get w.order round ≡ Some node → missed_of missed node ≡ found → is_missed found (place_of w.asked) ≡ stays round missed w
+pub stays_so : (round : ℕ) (missed : List Missed) (w : PendingSlice) (node : ℕ) (found : Option Found) → slice_get w.order round ≡ Some node → missed_of missed node ≡ found → is_missed found (place_of w.asked) ≡ stays round missed w
 stays_so round missed w node found at is = sym (ap (λ (o : Option ℕ). stays_at o missed (place_of w.asked)) at ∙ ap (λ (f : Option Found). is_missed f (place_of w.asked)) is)

@@ -17,7 +17,7 @@ use Rattle.druid_query.specs.AskedOrder.{same_asked}
 use Rattle.druid_partial.specs.Groups.{Group, IsResult}
 use Rattle.druid_partial_scan.specs.Once.{HaveOwnSegments, counted_groups, is_counted}
 use Rattle.druid_partial.specs.Partials.{kinds_of}
-use Rattle.druid_partial_scan.specs.Rows.{tells, passes_if}
+use Rattle.druid_partial_scan.specs.Rows.{row_group, passes_if}
 use Rattle.druid_broker_scatter.specs.Gathered.{Exchange, Answers}
 
 -- the pieces that an answer gives: those that were asked for and that it does not list as missing
@@ -53,4 +53,4 @@ counts query sees missing s row =
 
 -- what they tell
 abbrev pub counted_visible : Query → (Segment → Row → Bool) → List Asked → List Segment → List Group
-counted_visible query sees missing segments = flat_map (λ s. map (tells query s.fields) (filter (counts query sees missing s) s.rows)) segments
+counted_visible query sees missing segments = flat_map (λ s. map (row_group query s.fields) (filter (counts query sees missing s) s.rows)) segments

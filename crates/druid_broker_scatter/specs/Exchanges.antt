@@ -2,7 +2,7 @@
 use Rattle.std.specs.Prelude.{option_map}
 use Rattle.std.specs.BTreeSet.{contains}
 use Rattle.druid_broker_scatter.specs.declared.requests.Exchange.{Exchange}
-use Rattle.druid_broker_scatter.specs.Waiting.{Ask, Missed, at_cmp}
+use Rattle.druid_broker_scatter.specs.Pending.{Ask, Missed, at_cmp}
 
 abbrev pub ask_in : Exchange → Ask
 ask_in x = (x.node, x.sub.asked)

@@ -5,7 +5,7 @@ use Rattle.druid_query.specs.Query.{Query}
 use Rattle.druid_query.specs.Asked.{Asked}
 use Rattle.druid_base.specs.Json.{ReadsAs}
 use Rattle.druid_query.specs.SubQuery.{SubQuery, subquery_text}
-use Rattle.druid_partial_text.specs.Answers.{TellsAnswer}
+use Rattle.druid_partial_text.specs.Answers.{ReportsAnswer}
 use Rattle.druid_partial.specs.Groups.{Group, IsResult}
 use Rattle.druid_partial.specs.Partials.{kinds_of}
 use Rattle.druid_link.specs.Links.{Came}
@@ -54,7 +54,7 @@ pub record Answers (query : Query) (e : Exchange) (missing : List Asked) (groups
   pub response : IsResponse bytes 200 body rest
   pub json : Data
   pub reads : ReadsAs body json
-  pub reported : TellsAnswer (sub_of query e.asked) json missing groups
+  pub reported : ReportsAnswer (sub_of query e.asked) json missing groups
 
 -- it is no answer, and the link did not lack memory: it failed otherwise, or the bytes are no response, or its status is another,
 -- or its body does not read
@@ -68,11 +68,11 @@ Gives query e a =
     Contains e.asked a × (missing : List Asked) × (groups : List Group) × Answers query e missing groups × (Contains missing a → ⊥)
 
 -- what all answers tell, in their order
-abbrev pub TellAll : Query → List Exchange → List Group → Type 0
-TellAll query [] rows = rows ≡ []
-TellAll query (e ∷ more) rows =
-    ((missing : List Asked) × (groups back : List Group) × Answers query e missing groups × TellAll query more back × (rows ≡ groups ++ back))
-    ⊎ (IsLost query e × TellAll query more rows)
+abbrev pub AllReport : Query → List Exchange → List Group → Type 0
+AllReport query [] rows = rows ≡ []
+AllReport query (e ∷ more) rows =
+    ((missing : List Asked) × (groups back : List Group) × Answers query e missing groups × AllReport query more back × (rows ≡ groups ++ back))
+    ⊎ (IsLost query e × AllReport query more rows)
 
 -- ---- gathering
 
@@ -114,5 +114,5 @@ pub record IsGathered (order : List ℕ → List ℕ) (query : Query) (pairs : L
       → (e : Exchange) × Contains exchanges e × Asks e p.asked node
   pub ordered : IsStrictlySortedBy place_cmp missing
   pub rows : List Group
-  pub reported : TellAll query exchanges rows
+  pub reported : AllReport query exchanges rows
   pub merged : IsResult (kinds_of query) rows groups

@@ -6,6 +6,6 @@ pub mod Order
 pub mod Exact
 -- words of private contracts
 pub mod Planned
-pub mod Waiting
+pub mod Pending
 pub mod Slices
 pub mod Exchanges

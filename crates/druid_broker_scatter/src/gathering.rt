@@ -2,11 +2,11 @@
 ghost use Rattle.std.specs.Prelude.{◌≡◌, ◌⊎◌, List, [], Any, IfOk, OnErr, length};
 ghost use Rattle.druid_partial.specs.Partials.{IsPartialFor};
 ghost use Rattle.druid_broker_scatter.specs.Gathered.{Exchange, AreMade};
-ghost use Rattle.druid_broker_scatter.specs.Waiting.{AreBelow, Goes, AsksOn, MayLackMemory, pieces_of};
+ghost use Rattle.druid_broker_scatter.specs.Pending.{AreBelow, Goes, AsksOn, MayLackMemory, pieces_of};
 
-use crate::exchanging::{add_told, ask_all};
+use crate::exchange::{add_reported, ask_all};
+use crate::pending::{PendingSlice, into_pieces, keep_missed};
 use crate::requests::exchanges_for;
-use crate::waiting::{Waiting, into_pieces, keep_missed};
 use crate::{Answer, GatherFault};
 use druid_link::Link;
 use druid_partial::Partial;
@@ -18,12 +18,12 @@ use std::thread::Threads;
 // The pieces that wait for an answer, and what was answered of the others.
 #[derive(Debug, Drop)]
 pub(crate) struct Gathering {
-    waiting: Vec<Waiting>,
+    waiting: Vec<PendingSlice>,
     partial: Partial,
 }
 
 impl Model for Gathering {
-    ghost use Rattle.druid_broker_scatter.specs.Waiting.{State};
+    ghost use Rattle.druid_broker_scatter.specs.Pending.{State};
 
     ghost Value = { State };
 
@@ -32,7 +32,7 @@ impl Model for Gathering {
 
 impl Gathering {
     // These pieces wait, and that was answered.
-    pub(crate) fn new(waiting: Vec<Waiting>, partial: Partial) -> Gathering
+    pub(crate) fn new(waiting: Vec<PendingSlice>, partial: Partial) -> Gathering
         ensures { result ≡ record { waiting = waiting.items; partial = partial } }
     {
         Gathering { waiting, partial }
@@ -61,9 +61,9 @@ impl Gathering {
             partial,
         } = self;
         let mut exchanges = exchanges_for(alloc, query, &waiting, round)?;
-        let told = ask_all(rt, &alloc, query, exchanges.as_mut_slice(), links, 0)?;
+        let reported = ask_all(rt, &alloc, query, exchanges.as_mut_slice(), links, 0)?;
         keep_missed(&mut waiting, round, &exchanges);
-        let partial = add_told(alloc, query, partial, told)?;
+        let partial = add_reported(alloc, query, partial, reported)?;
         Ok(Gathering { waiting, partial })
     }
 

@@ -2,9 +2,9 @@
 //! on to the next replica and are missing in the end.
 ghost use Rattle.std.specs.Prelude.{◌≡◌, ◌++◌, ◌∷◌, ◌==◌, ℕ, All, [], IfOk, OnOk, cond, map};
 ghost use Rattle.druid_broker_scatter.specs.Slices.{NoneEmpty, slices_of};
-ghost use Rattle.druid_broker_scatter.specs.Waiting.{IsRound, sub_request, wanted_of};
+ghost use Rattle.druid_broker_scatter.specs.Pending.{IsRound, sub_request, wanted_of};
 
-use crate::waiting::{Places, Waiting};
+use crate::pending::{PendingSlice, Places};
 use druid_http_message::Request;
 use druid_http_wire::request_bytes;
 use druid_query::{Query, SegmentSlice, SubQuery};
@@ -50,7 +50,7 @@ fn add_slice(
 }
 
 // What the round asks each node for: all in one pass over what waits.
-fn slices_for(alloc: Global, waiting: &[Waiting], round: usize) -> Result<Slices, AllocError>
+fn slices_for(alloc: Global, waiting: &[PendingSlice], round: usize) -> Result<Slices, AllocError>
     ensures wanted { IfOk result (λ slices. (node : ℕ) → slices_of slices node ≡ wanted_of round waiting.now node) }
     ensures none_empty { IfOk result NoneEmpty }
 {
@@ -97,7 +97,7 @@ fn exchange_for(
 pub(crate) fn exchanges_for(
     alloc: Global,
     query: &Query,
-    waiting: &[Waiting],
+    waiting: &[PendingSlice],
     round: usize,
 ) -> Result<Vec<Exchange>, AllocError>
     ensures round { IfOk result (λ exchanges. IsRound round waiting.now (map (λ x. (x.node, x.sub.asked)) exchanges.items)) }

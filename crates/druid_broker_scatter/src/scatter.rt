@@ -5,7 +5,7 @@ ghost use Rattle.druid_broker_scatter.specs.Gathered.{Exchange, AreMade, AreAske
 ghost use Rattle.druid_broker_scatter.specs.Rounds.{AreLinked};
 
 use crate::gathering::Gathering;
-use crate::waiting::{most_nodes, waiting_for};
+use crate::pending::{most_nodes, waiting_for};
 use crate::{Answer, GatherFault, Pick, Plan};
 use druid_link::Link;
 use druid_partial::Partial;

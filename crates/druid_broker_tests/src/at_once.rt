@@ -6,8 +6,8 @@ use crate::cluster::{
     First, Handle, answer_of, inventory, message_of, node_that_keeps, reaches, reported_response,
     segment, try_linked,
 };
-use crate::printing::assert_holds;
-use crate::reading::mark_read;
+use crate::readers::mark_read;
+use crate::tables::assert_holds;
 use crate::turns::has_node;
 use druid_broker_follow::shared_turn;
 use druid_folder::Folder;

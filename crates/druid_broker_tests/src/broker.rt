@@ -5,7 +5,7 @@ use crate::cluster::{
     Cluster, Failure, Handle, Server, Setup, answered, followed, made_by_two, posted, set, set_up,
     written,
 };
-use crate::printing::{assert_holds, assert_reported, halves, printed, replaced};
+use crate::tables::{assert_holds, assert_reported, halves, printed, replaced};
 use druid_inventory_views::Publication;
 use std::alloc::Global;
 use std::marker::Brand;

@@ -4,7 +4,7 @@ ghost use Rattle.std.specs.Prelude.{◌≡◌};
 use crate::cluster::{Handle, inventory};
 use crate::follow::{link, mark_text, outcome_of};
 use crate::hostile_turns::whole_line;
-use crate::printing::{all_replaced, assert_reported, halves, printed};
+use crate::tables::{all_replaced, assert_reported, halves, printed};
 use crate::turns::has_node;
 use druid_broker_follow::{Unobserved, observed_turn, shared_turn};
 use druid_inventory::Inventory;

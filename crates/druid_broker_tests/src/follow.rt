@@ -2,8 +2,8 @@
 ghost use Rattle.std.specs.Prelude.{◌≡◌};
 
 use crate::cluster::{Cluster, Handle, Setup, answered, followed, set_up};
-use crate::printing::{assert_reported, halves, printed, replaced};
 use crate::published::SNAPSHOT;
+use crate::tables::{assert_reported, halves, printed, replaced};
 use druid_broker_follow::{fetch_entry, seed_turn, sync_turn};
 use druid_inventory::{Inventory, Outcome};
 use druid_inventory_views::{Opened, Publication, Publisher, open};

@@ -6,8 +6,8 @@ use crate::cluster::{
     Cluster, Handle, Setup, TestLink, followed, message_of, reaches, reported_response, set_up,
     try_linked,
 };
-use crate::printing::assert_reported;
 use crate::scatter::{count, gathered};
+use crate::tables::assert_reported;
 use druid_http_message::WireFault;
 use druid_inventory::Inventory;
 use druid_inventory_views::{Publication, Publisher, View};

@@ -9,7 +9,7 @@ use crate::cluster::{
 use crate::drawn::Draws;
 use crate::follow::whole_reply;
 use crate::hostile_turns::{Turn, state, take_turn, whole_line};
-use crate::printing::{assert_holds, printed};
+use crate::tables::{assert_holds, printed};
 use druid_http_message::WireFault;
 use druid_http_wire::response_of;
 use druid_inventory_views::Publication;
@@ -123,7 +123,7 @@ fn drawn_answer(rt: &impl Abort, alloc: Global, draws: &mut Draws) -> String {
 
 // What a broker answers that takes these bytes of a node: with the count of their row, or without a row. No spoiled row has another
 // instant: `all` is one bucket.
-fn told(rt: &impl Abort, alloc: Global, bytes: &[u8]) -> String {
+fn reported(rt: &impl Abort, alloc: Global, bytes: &[u8]) -> String {
     let text = String::from_utf8_lossy(alloc, bytes).expect(rt, "memory");
     let Some((_, rest)) = text.as_str().split_once(ROW) else {
         return printed(rt, alloc, &"200 []");
@@ -208,12 +208,12 @@ fn gathers<R: Handle, J: Publication>(
     let answer = drawn_answer(&rt, alloc, draws);
     let bytes = drawn_reply(&rt, alloc, draws, answer.as_str());
     let spoiled = bytes != whole_reply(&rt, alloc, "200", answer.as_str());
-    let told = told(&rt, alloc, &bytes);
+    let reported = reported(&rt, alloc, &bytes);
     set(cluster, 0, Server::Bytes(bytes));
     made_by_two(cluster);
     let counted = counted(alloc, cluster, 0);
     match made_by_two(cluster) {
-        (1, 0) => counted.as_str() == told.as_str(),
+        (1, 0) => counted.as_str() == reported.as_str(),
         asked => spoiled && asked == (1, 1) && counted.as_str() == COUNTED,
     }
 }

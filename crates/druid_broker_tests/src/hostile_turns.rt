@@ -4,7 +4,7 @@ ghost use Rattle.std.specs.Prelude.{◌≡◌};
 use crate::broker::answer_of;
 use crate::cluster::inventory;
 use crate::follow::{mark_text, outcome_of, reply};
-use crate::printing::{all_replaced, assert_reported, halves, printed, replaced};
+use crate::tables::{all_replaced, assert_reported, halves, printed, replaced};
 use druid_broker_follow::{TurnFault, seed_turn, sync_turn};
 use druid_inventory::{Inventory, Outcome};
 use druid_inventory_views::{Opened, Publication, Publisher, Receipt, open};

@@ -17,13 +17,13 @@ mod follow;
 #[cfg(test)]
 mod gate;
 #[cfg(test)]
-mod hanging;
-#[cfg(test)]
 mod hostile_drawn;
 #[cfg(test)]
 mod hostile_gather;
 #[cfg(test)]
 mod hostile_turns;
+#[cfg(test)]
+mod hung_replicas;
 #[cfg(test)]
 mod limits;
 #[cfg(test)]
@@ -33,15 +33,15 @@ mod paged;
 #[cfg(test)]
 mod plain;
 #[cfg(test)]
-mod printing;
-#[cfg(test)]
 mod published;
 #[cfg(test)]
-mod reading;
+mod readers;
 #[cfg(test)]
 mod scatter;
 #[cfg(test)]
 mod sockets;
+#[cfg(test)]
+mod tables;
 #[cfg(test)]
 mod turns;
 #[cfg(test)]

@@ -1,7 +1,7 @@
 //! Queries and subqueries whose filters are at a limit, and beyond it.
 use crate::broker::answer_of;
 use crate::cluster::{Handle, message_of, reported_response, set_up};
-use crate::printing::{assert_holds, assert_reported, halves};
+use crate::tables::{assert_holds, assert_reported, halves};
 use druid_link::Link;
 use std::alloc::Global;
 use std::process::Abort;

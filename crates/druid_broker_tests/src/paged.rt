@@ -5,7 +5,7 @@ use crate::cluster::{Cluster, Handle, Setup, answered, followed, set_up};
 use crate::follow::{mark_text, one_node, reply, whole_reply};
 use crate::hostile_turns::{Turn, take_turn};
 use crate::many_pieces::reply_of;
-use crate::printing::{assert_reported, halves};
+use crate::tables::{assert_reported, halves};
 use druid_inventory::Inventory;
 use druid_inventory_views::{Opened, Publication, Publisher, open};
 use druid_link::MemoryLink;

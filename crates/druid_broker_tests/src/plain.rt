@@ -1,6 +1,6 @@
 //! Drawn clusters, kept plainly, and what a query answers over all their rows by a plain computation: instant by instant (here an
 //! hour), all chunks at each.
-use crate::printing::printed;
+use crate::tables::printed;
 use std::alloc::Global;
 use std::process::Abort;
 

@@ -2,7 +2,7 @@
 ghost use Rattle.std.specs.Prelude.{◌≡◌, ◌≤◌};
 
 use crate::follow::{link, mark_text, one_node};
-use crate::printing::{assert_reported, printed};
+use crate::tables::{assert_reported, printed};
 use druid_broker_follow::fetch;
 use druid_inventory::Inventory;
 use druid_inventory_views::{Opened, Publication, Publisher, View, open};
@@ -80,10 +80,10 @@ fn both<J: Publication>(
     rt: &impl Abort,
     alloc: Global,
     reported: &mut View<J>,
-    untold: &mut View<J>,
+    unreported: &mut View<J>,
 ) -> String {
     let first = read(rt, alloc, reported);
-    let other = read(rt, alloc, untold);
+    let other = read(rt, alloc, unreported);
     format!(in alloc; "{first} {other}").expect(rt, "memory")
 }
 
@@ -94,20 +94,20 @@ fn views_read<R: Wait + Abort + Drop, J: Publication>(
     alloc: Global,
     publisher: Publisher<J, R>,
     reported: &mut View<J>,
-    untold: &mut View<J>,
+    unreported: &mut View<J>,
 ) -> String {
     let mut publisher = publisher;
-    let before = both(rt, alloc, reported, untold);
+    let before = both(rt, alloc, reported, unreported);
     publish_to(rt, alloc, &mut publisher, reported, SNAPSHOT);
-    let snapshot = both(rt, alloc, reported, untold);
+    let snapshot = both(rt, alloc, reported, unreported);
     publish_to(rt, alloc, &mut publisher, reported, DELTA);
-    let delta = both(rt, alloc, reported, untold);
+    let delta = both(rt, alloc, reported, unreported);
     publish_to(rt, alloc, &mut publisher, reported, DELTA);
-    let again = both(rt, alloc, reported, untold);
+    let again = both(rt, alloc, reported, unreported);
     let refused = refused(rt, alloc, &mut publisher, GAP);
-    let after = both(rt, alloc, reported, untold);
+    let after = both(rt, alloc, reported, unreported);
     drop(publisher);
-    let gone = both(rt, alloc, reported, untold);
+    let gone = both(rt, alloc, reported, unreported);
     format!(in alloc; "{before}, {snapshot}, {delta}, {again}, {refused}, {after}, {gone}").expect(
         rt, "memory",
     )
@@ -127,8 +127,8 @@ fn both_read<R: Wait + Abort + Drop + Copy, J: Publication>(
         rt, "memory",
     );
     let mut reported = views.pop().expect(rt, "a view");
-    let mut untold = views.pop().expect(rt, "a view");
-    views_read(rt, alloc, publisher, &mut reported, &mut untold)
+    let mut unreported = views.pop().expect(rt, "a view");
+    views_read(rt, alloc, publisher, &mut reported, &mut unreported)
 }
 
 fn read_of<R: Wait + Abort + Drop + Copy>(rt: &R, alloc: Global) -> String {

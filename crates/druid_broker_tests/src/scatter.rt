@@ -8,8 +8,8 @@ use crate::cluster::{
     set_up,
 };
 use crate::follow::link;
-use crate::printing::{assert_reported, halves};
 use crate::published::SNAPSHOT;
+use crate::tables::{assert_reported, halves};
 use druid_broker_follow::fetch_entry;
 use druid_broker_scatter::{Answer, Pick, Plan, Rotate, gather, plan};
 use druid_inventory::Inventory;

@@ -3,7 +3,7 @@ ghost use Rattle.std.specs.Prelude.{◌≡◌};
 
 use crate::cluster::{Cluster, Handle, Setup, followed, is_linked, set_up};
 use crate::follow::one_node;
-use crate::printing::printed;
+use crate::tables::printed;
 use druid_broker::{Routes, serve_one};
 use druid_broker_follow::seed_turn;
 use druid_broker_scatter::Rotate;

@@ -3,7 +3,7 @@ ghost use Rattle.std.specs.Prelude.{◌≡◌, ◌<◌, IsTrue, length};
 
 use crate::cluster::Handle;
 use crate::follow::{link, mark_text, one_node};
-use crate::printing::{assert_reported, halves};
+use crate::tables::{assert_reported, halves};
 use druid_broker_follow::{Observe, TurnCount, Turned, follow_observed, follow_on_observed};
 use druid_inventory::Inventory;
 use druid_inventory_views::{Opened, Publication, Publisher, View, open};

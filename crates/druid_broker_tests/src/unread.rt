@@ -3,7 +3,7 @@ ghost use Rattle.std.specs.Prelude.{◌≡◌};
 
 use crate::broker::{message, query};
 use crate::cluster::{Cluster, Handle, Setup, answered_alone, followed, message_of, set_up};
-use crate::printing::{assert_reported, halves};
+use crate::tables::{assert_reported, halves};
 use druid_inventory_views::Publication;
 use std::alloc::Global;
 use std::marker::Brand;

@@ -81,13 +81,13 @@ impl<R: Wait + Clock + Drop> TurnWatcher<R> {
         }
     }
 
-    fn tell(&self, event: &Event<'_>) {
+    fn emit(&self, event: &Event<'_>) {
         self.log
-            .tell(&self.rt, self.alloc, self.server.as_str(), event);
+            .emit(&self.rt, self.alloc, self.server.as_str(), event);
     }
 
     // Tells that the node can't be followed; of no code where memory runs out for it.
-    fn tell_lost(&self, outcome: &Result<Outcome, TurnFault>) {
+    fn emit_lost(&self, outcome: &Result<Outcome, TurnFault>) {
         let Err(fault) = outcome else {
             return;
         };
@@ -96,18 +96,18 @@ impl<R: Wait + Clock + Drop> TurnWatcher<R> {
             Ok(text) => code_in(text.as_str()),
             Err(_) => "",
         };
-        self.tell(&Event::Lost {
+        self.emit(&Event::Lost {
             node: self.node.as_str(),
             code,
         });
     }
 
     // Tells what is logged of a turn that failed or did not.
-    fn tell_report(&self, report: Report, outcome: &Result<Outcome, TurnFault>) {
+    fn emit_report(&self, report: Report, outcome: &Result<Outcome, TurnFault>) {
         match report {
             Report::Nothing => {}
-            Report::Begins => self.tell_lost(outcome),
-            Report::Ends(failed) => self.tell(&Event::Found {
+            Report::Begins => self.emit_lost(outcome),
+            Report::Ends(failed) => self.emit(&Event::Found {
                 node: self.node.as_str(),
                 failed,
             }),
@@ -115,9 +115,9 @@ impl<R: Wait + Clock + Drop> TurnWatcher<R> {
     }
 
     // Tells of a mark that fell.
-    fn tell_fall(&self, marks: &Option<Marks>) {
+    fn emit_fall(&self, marks: &Option<Marks>) {
         if let Some(marks) = marks {
-            self.tell(&Event::Fell {
+            self.emit(&Event::Fell {
                 node: self.node.as_str(),
                 held: marks.held,
                 shown: marks.shown,
@@ -130,10 +130,10 @@ impl<R: Wait + Clock + Drop> Observe for TurnWatcher<R> {
     fn turn(&mut self, turned: &Turned) {
         self.count(turned);
         let report = self.outage.turn(turned.outcome.is_err());
-        self.tell_report(report, &turned.outcome);
+        self.emit_report(report, &turned.outcome);
         // A turn without a reply says nothing of marks.
         if turned.marks.is_some() && self.fall.show(fallen(&turned.marks)) {
-            self.tell_fall(&turned.marks);
+            self.emit_fall(&turned.marks);
         }
     }
 }

@@ -22,7 +22,7 @@ fn spelled() -> &'static str {
 }
 
 // The texts and the codes of the two dimensions of the second.
-const LENT: [(usize, [&str; 2], [u32; 4]); 2] = [
+const BORROWED: [(usize, [&str; 2], [u32; 4]); 2] = [
     (0, ["a", "b"], [2, 1, 0, 2]),
     (1, ["", "\u{e9}"], [0, 1, 2, 1]),
 ];
@@ -88,7 +88,7 @@ fn are_texts(found: &Texts, texts: &[&str]) -> bool {
 }
 
 // Whether a segment has these texts and codes.
-fn lends(segment: &Segment, place: usize, texts: &[&str], codes: &[u32]) -> bool {
+fn borrows(segment: &Segment, place: usize, texts: &[&str], codes: &[u32]) -> bool {
     if place >= segment.schema().dimensions().len() {
         return false;
     }
@@ -107,9 +107,9 @@ fn second(rt: &impl Abort, alloc: Global, layout: &[u8], part: usize) -> Segment
 fn texts_and_codes(rt: HostRuntime) {
     let rows = second(&rt, rt.alloc(), b"DSG1", 1);
     let columns = second(&rt, rt.alloc(), b"DSG2", 2);
-    for (place, texts, codes) in &LENT {
-        assert!(rt; lends(&rows, *place, texts, codes), "{place}");
-        assert!(rt; lends(&columns, *place, texts, codes), "{place}");
+    for (place, texts, codes) in &BORROWED {
+        assert!(rt; borrows(&rows, *place, texts, codes), "{place}");
+        assert!(rt; borrows(&columns, *place, texts, codes), "{place}");
     }
 }
 

@@ -1,6 +1,6 @@
 //! Readers and writers that fail, that are interrupted, and that take a byte at a time.
 use crate::kinds::KINDS;
-use crate::printing::{beside, printed};
+use crate::printed::{beside, printed};
 use crate::table::{Table, assert_reported, assert_row, assert_rows, is_reported};
 use crate::wire::{reported_of, spelled};
 use druid_http_message::WireFault;

@@ -29,17 +29,17 @@ mod message;
 #[cfg(test)]
 mod metrics;
 #[cfg(test)]
-mod printing;
+mod printed;
+#[cfg(test)]
+mod requests;
 #[cfg(test)]
 mod rows;
 #[cfg(test)]
 mod segfile;
 #[cfg(test)]
-mod serving;
-#[cfg(test)]
 mod slow;
 #[cfg(test)]
-mod standing;
+mod socket_front;
 #[cfg(test)]
 mod store;
 #[cfg(test)]

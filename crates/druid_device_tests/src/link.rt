@@ -1,5 +1,5 @@
 //! Links in memory.
-use crate::printing::{printed, text_of};
+use crate::printed::{printed, text_of};
 use crate::table::{Table, assert_reported, assert_rows, is_reported};
 use crate::wire::large;
 use druid_link::{Link, MAX_EXCHANGE, MemoryLink};

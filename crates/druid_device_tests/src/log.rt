@@ -173,7 +173,7 @@ fn codes(rt: HostRuntime) {
 }
 
 // Tells of one event so often.
-fn tell_often<R: Abort + Wait + Clock>(
+fn emit_often<R: Abort + Wait + Clock>(
     rt: &R,
     alloc: Global,
     level: Level,
@@ -181,7 +181,7 @@ fn tell_often<R: Abort + Wait + Clock>(
 ) -> String {
     let (log, lines) = open(alloc, level).expect(rt, "memory");
     for _ in 0..count {
-        log.tell(rt, alloc, "n0", &Event::Loaded { file: "a.seg" });
+        log.emit(rt, alloc, "n0", &Event::Loaded { file: "a.seg" });
     }
     drop(log);
     let mut out = Vec::new(alloc);
@@ -201,10 +201,10 @@ fn count_of(text: &str, end: &str) -> (usize, usize) {
 #[test]
 fn queues(rt: HostRuntime) {
     let loaded = "\"event\":\"loaded\",\"file\":\"a.seg\",\"server\":\"n0\"}";
-    let text = tell_often(&rt, rt.alloc(), Level::Info, 3);
+    let text = emit_often(&rt, rt.alloc(), Level::Info, 3);
     assert!(&rt; count_of(text.as_str(), loaded) == (3, 3), "{text}");
-    assert!(&rt; tell_often(&rt, rt.alloc(), Level::Off, 3).as_str() == "");
-    let text = tell_often(&rt, rt.alloc(), Level::Debug, ROOM + 6);
+    assert!(&rt; emit_often(&rt, rt.alloc(), Level::Off, 3).as_str() == "");
+    let text = emit_often(&rt, rt.alloc(), Level::Debug, ROOM + 6);
     assert!(&rt; count_of(text.as_str(), loaded) == (ROOM + 1, ROOM));
     let missed = "\"event\":\"missed\",\"lines\":6,\"server\":\"log\"}";
     assert!(&rt; count_of(text.as_str(), missed) == (ROOM + 1, 1));
@@ -225,10 +225,10 @@ impl Write for Closed {
 }
 
 // A writer that is closed ends nothing: all that tells goes on, and so does what takes lines, until the log is gone.
-fn told_to_nobody<R: Abort + Wait + Clock>(rt: &R, alloc: Global) {
+fn emitted_to_nobody<R: Abort + Wait + Clock>(rt: &R, alloc: Global) {
     let (log, lines) = open(alloc, Level::Info).expect(rt, "memory");
     for _ in 0..5 {
-        log.tell(rt, alloc, "n0", &Event::Loaded { file: "a.seg" });
+        log.emit(rt, alloc, "n0", &Event::Loaded { file: "a.seg" });
     }
     drop(log);
     if let Some(lines) = lines {
@@ -238,11 +238,11 @@ fn told_to_nobody<R: Abort + Wait + Clock>(rt: &R, alloc: Global) {
 
 #[test]
 fn closed_writers(rt: HostRuntime) {
-    told_to_nobody(&rt, rt.alloc());
+    emitted_to_nobody(&rt, rt.alloc());
 }
 
 // Tells of so many connections.
-fn tell_of_connections<R: Wait + Clock>(rt: &R, alloc: Global, log: Log, count: u64) {
+fn report_connections<R: Wait + Clock>(rt: &R, alloc: Global, log: Log, count: u64) {
     for bytes in 0..count {
         let event = Event::Answered {
             route: "health",
@@ -250,7 +250,7 @@ fn tell_of_connections<R: Wait + Clock>(rt: &R, alloc: Global, log: Log, count: 
             milliseconds: 0,
             bytes,
         };
-        log.tell(rt, alloc, "n0", &event);
+        log.emit(rt, alloc, "n0", &event);
     }
 }
 
@@ -265,7 +265,7 @@ fn written_beside<R: Abort + Wait + Clock + Threads + Sync>(
     let mut out = Vec::new(alloc);
     join(
         rt,
-        move || tell_of_connections(rt, alloc, log, count),
+        move || report_connections(rt, alloc, log, count),
         || write_lines(rt, alloc, &lines, &mut out),
     );
     out

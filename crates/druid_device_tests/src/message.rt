@@ -1,5 +1,5 @@
 //! Requests of many sizes: with ample memory each is written, and read as the same request.
-use crate::printing::{beside, printed};
+use crate::printed::{beside, printed};
 use crate::table::assert_reported;
 use crate::wire::patterned;
 use druid_http_message::Request;

@@ -1,4 +1,4 @@
-use crate::printing::assert_prints;
+use crate::printed::assert_prints;
 use druid_segment_descriptor::Descriptor;
 use druid_segment_id::{Name, SegmentId, Version};
 use druid_segment_rows::{Filter, Row, RowFault, Schema, Segment, SegmentBuilder, matches};

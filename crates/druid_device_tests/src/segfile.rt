@@ -1,5 +1,5 @@
 use crate::kinds::KINDS;
-use crate::printing::assert_prints;
+use crate::printed::assert_prints;
 use druid_segment_file::{FileFault, read_segment, write_segment};
 use druid_segment_rows::Segment;
 use std::alloc::Global;

@@ -1,5 +1,5 @@
 //! Clients that are slow, while others ask.
-use crate::standing::{Host, connected, started};
+use crate::socket_front::{Host, connected, started};
 use std::alloc::Global;
 use std::io::{Read, Write};
 use std::net::{Net, TcpListener, TcpStream};

@@ -1,4 +1,4 @@
-use crate::printing::{assert_prints, printed};
+use crate::printed::{assert_prints, printed};
 use crate::wire::patterned;
 use druid_folder::{Folder, StoreFault, is_file_name};
 use druid_folder_incarnation::next_incarnation;

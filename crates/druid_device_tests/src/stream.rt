@@ -1,5 +1,5 @@
 //! Lines and texts over streams: that calls succeed with ample memory, and where a limit lies.
-use crate::printing::text_of;
+use crate::printed::text_of;
 use crate::table::{Table, assert_row, assert_rows, is_reported};
 use druid_stream::{Next, Part, next_line, next_part, write_text};
 use std::alloc::Global;

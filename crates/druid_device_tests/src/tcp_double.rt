@@ -5,7 +5,7 @@ ghost use Rattle.druid_link.specs.Links.{came_of};
 
 use crate::kinds::KINDS;
 use crate::link::REQUEST;
-use crate::printing::printed;
+use crate::printed::printed;
 use druid_http_message::WireFault;
 use druid_link::{Link, TcpLink};
 use druid_link_health::{Asker, Health, MonitoredLink};

@@ -1,6 +1,6 @@
 //! Links over sockets of this machine.
 use crate::link::{REQUEST, exchanged_for};
-use crate::printing::printed;
+use crate::printed::printed;
 use crate::table::{assert_reported, assert_row, halves, is_reported};
 use crate::wire::{large, patterned};
 use druid_http_message::WireFault;

@@ -1,5 +1,5 @@
 //! Messages, read and written.
-use crate::printing::{beside, printed, text_of};
+use crate::printed::{beside, printed, text_of};
 use crate::table::{Table, assert_reported, assert_row, assert_rows, halves, is_reported};
 use druid_http_message::{Request, WireFault};
 use druid_http_wire::{

@@ -8,7 +8,7 @@ use Rattle.std.specs.Option.{IfNone, ok_or}
 use Rattle.druid_folder.proofs.ReadPart.{read_part-None, read_part-whole, read_part-cut}
 use Rattle.druid_folder.specs.Folder.{Content, with_file, renamed, DoneOrNot, max_file, read_part}
 use Rattle.druid_folder_incarnation.specs.Incarnation.{number_file, next_file, number_text, HasNumber, IsKeptOrNext}
-use Rattle.druid_folder_incarnation.specs.Keeping.{IsKeptOr}
+use Rattle.druid_folder_incarnation.specs.KeptFile.{IsKeptOr}
 
 -- what the file holds once the text stands in the other and that was to take its place
 pub same_or_text : (text : List ℕ) (files mid new : Content) → mid ≡ with_file files next_file (Some text) → DoneOrNot (renamed next_file number_file) mid new

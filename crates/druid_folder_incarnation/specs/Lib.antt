@@ -1,4 +1,4 @@
 -- what public contracts rest on
 pub mod Incarnation
 -- words of private contracts
-pub mod Keeping
+pub mod KeptFile

@@ -3,7 +3,7 @@ ghost use Rattle.std.specs.Prelude.{◌≡◌, ◌≢◌, Option, ◌⊎◌, ◌
 ghost use Rattle.std.specs.Fmt.{decimal};
 ghost use Rattle.druid_folder.specs.Folder.{Content, with_file, renamed, Torn, DoneOrNot, Only, SameLeft, LeavesOnly, faults_after, IsOwnFault};
 ghost use Rattle.druid_folder_incarnation.specs.Incarnation.{number_file, next_file, number_text, HasNumber, Answers, IsSameOrNext, IsKeptOrNext};
-ghost use Rattle.druid_folder_incarnation.specs.Keeping.{IsKeptOr};
+ghost use Rattle.druid_folder_incarnation.specs.KeptFile.{IsKeptOr};
 
 use druid_base::number_of;
 use druid_folder::{Folder, StoreFault};

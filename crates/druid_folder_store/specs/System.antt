@@ -13,23 +13,23 @@ abbrev pub IsMissing : Error → Type 0
 IsMissing e = error_kind e ≡ NotFound
 
 -- what a status answers to the question whether a file is there: a failure is reported, unless there is nothing of the name
-abbrev pub TellsFile : Result Metadata Error → Result Bool Error → Type 0
-TellsFile (Ok status) answer = IsOkAnd answer (λ is. IsTrue is ↔ IsFile (file_type status))
-TellsFile (Err e) answer = (IsMissing e → answer ≡ Ok false) × ((IsMissing e → ⊥) → answer ≡ Err e)
+abbrev pub ReportsFile : Result Metadata Error → Result Bool Error → Type 0
+ReportsFile (Ok status) answer = IsOkAnd answer (λ is. IsTrue is ↔ IsFile (file_type status))
+ReportsFile (Err e) answer = (IsMissing e → answer ≡ Ok false) × ((IsMissing e → ⊥) → answer ≡ Err e)
 
 -- what a removal answers: a failure is reported, unless there is nothing of the name
-abbrev pub TellsRemoved : Result Unit Error → Result Unit Error → Type 0
-TellsRemoved (Ok done) answer = answer ≡ Ok done
-TellsRemoved (Err e) answer = (IsMissing e → answer ≡ Ok tt) × ((IsMissing e → ⊥) → answer ≡ Err e)
+abbrev pub ReportsRemoved : Result Unit Error → Result Unit Error → Type 0
+ReportsRemoved (Ok done) answer = answer ≡ Ok done
+ReportsRemoved (Err e) answer = (IsMissing e → answer ≡ Ok tt) × ((IsMissing e → ⊥) → answer ≡ Err e)
 
 -- what an entry answers: a failure is reported, unless the name is no text
-abbrev pub TellsEntry : {T : Type 0} → Result T Error → Result (Option T) Error → Type 0
-TellsEntry (Ok entry) answer = answer ≡ Ok (Some entry)
-TellsEntry (Err e) answer =
+abbrev pub ReportsEntry : {T : Type 0} → Result T Error → Result (Option T) Error → Type 0
+ReportsEntry (Ok entry) answer = answer ≡ Ok (Some entry)
+ReportsEntry (Err e) answer =
     (error_kind e ≡ InvalidFilename → answer ≡ Ok None) × (error_kind e ≢ InvalidFilename → answer ≡ Err e)
 
 -- what a call of the system answers, as the folder's answer: a failure is out of memory or the device's
-abbrev pub TellsFault : {T : Type 0} → Result T Error → Result T StoreFault → Type 0
-TellsFault (Ok x) answer = answer ≡ Ok x
-TellsFault (Err e) answer =
+abbrev pub ReportsFault : {T : Type 0} → Result T Error → Result T StoreFault → Type 0
+ReportsFault (Ok x) answer = answer ≡ Ok x
+ReportsFault (Err e) answer =
     (error_kind e ≡ OutOfMemory → answer ≡ Err Memory) × (error_kind e ≢ OutOfMemory → answer ≡ Err Device)

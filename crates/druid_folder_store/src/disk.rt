@@ -10,13 +10,13 @@ ghost use Rattle.std.specs.Result.{is_ok};
 ghost use Rattle.druid_folder_store.specs.Disk.{calls_made, disk_failures};
 ghost use Rattle.druid_folder_store.specs.Event.{did_list, did_read, did_write, did_sync, did_rename, did_remove};
 ghost use Rattle.druid_folder_store.specs.Noted.{names_answered, file_answered};
-ghost use Rattle.druid_folder_store.specs.System.{TellsFile, TellsRemoved, TellsEntry, TellsFault};
+ghost use Rattle.druid_folder_store.specs.System.{ReportsFile, ReportsRemoved, ReportsEntry, ReportsFault};
 ghost use Rattle.druid_folder.specs.declared.fault.StoreFault.TheVariants.{Memory};
 ghost use Rattle.druid_folder.specs.FileName.{is_file_name, IsFileName};
 ghost use Rattle.druid_folder.specs.Folder.{Torn, Follows, AreInOrder, max_file, names_of, faults_after, IsOwnFault};
 
 use crate::Device;
-use crate::log::{Calls, Note};
+use crate::log::{Calls, FolderNote};
 use crate::name::put_in_order;
 use druid_folder::{Folder, MAX_FILE, StoreFault, is_file_name};
 use std::alloc::{AllocError, Global};
@@ -103,7 +103,7 @@ impl<R: Files + AllocGlobal + Clone + Drop, D: Device> Folder for DiskFolder<R, 
     {
         let found = files_in(&self.rt, alloc, folder_path(&self.path));
         let answer = count_fault(&mut self.faults, found);
-        self.calls = self.calls.then(&Note::List(&answer));
+        self.calls = self.calls.then(&FolderNote::List(&answer));
         answer
     }
 
@@ -119,7 +119,7 @@ impl<R: Files + AllocGlobal + Clone + Drop, D: Device> Folder for DiskFolder<R, 
     {
         let found = read_named(&self.rt, alloc, &self.path, name);
         let answer = count_fault(&mut self.faults, found);
-        self.calls = self.calls.then(&Note::Read(name, &answer));
+        self.calls = self.calls.then(&FolderNote::Read(name, &answer));
         answer
     }
 
@@ -144,7 +144,9 @@ impl<R: Files + AllocGlobal + Clone + Drop, D: Device> Folder for DiskFolder<R, 
         }
         let done = write_named(&self.rt, &self.path, name, bytes);
         let answer = count_fault(&mut self.faults, done);
-        self.calls = self.calls.then(&Note::Write(name, bytes, answer.is_ok()));
+        self.calls = self
+            .calls
+            .then(&FolderNote::Write(name, bytes, answer.is_ok()));
         answer
     }
 
@@ -160,7 +162,7 @@ impl<R: Files + AllocGlobal + Clone + Drop, D: Device> Folder for DiskFolder<R, 
             Err(io::Error::from(ErrorKind::Other))
         };
         let answer = count_fault(&mut self.faults, done);
-        self.calls = self.calls.then(&Note::Sync(answer.is_ok()));
+        self.calls = self.calls.then(&FolderNote::Sync(answer.is_ok()));
         answer
     }
 
@@ -182,7 +184,9 @@ impl<R: Files + AllocGlobal + Clone + Drop, D: Device> Folder for DiskFolder<R, 
         }
         let done = rename_named(&self.rt, &self.path, from, to);
         let answer = count_fault(&mut self.faults, done);
-        self.calls = self.calls.then(&Note::Rename(from, to, answer.is_ok()));
+        self.calls = self
+            .calls
+            .then(&FolderNote::Rename(from, to, answer.is_ok()));
         answer
     }
 
@@ -201,7 +205,7 @@ impl<R: Files + AllocGlobal + Clone + Drop, D: Device> Folder for DiskFolder<R, 
         }
         let done = remove_named(&self.rt, &self.path, name);
         let answer = count_fault(&mut self.faults, done);
-        self.calls = self.calls.then(&Note::Remove(name, answer.is_ok()));
+        self.calls = self.calls.then(&FolderNote::Remove(name, answer.is_ok()));
         answer
     }
 
@@ -212,7 +216,7 @@ impl<R: Files + AllocGlobal + Clone + Drop, D: Device> Folder for DiskFolder<R, 
 
 // What a call of the system answered, as the folder's answer. A failure of the device counts.
 fn count_fault<T>(faults: &mut u64, answer: io::Result<T>) -> Result<T, StoreFault>
-    ensures reported { TellsFault answer result }
+    ensures reported { ReportsFault answer result }
     ensures counted { faults.new ≡ faults_after result faults.old }
     ensures fault { IfErr result IsOwnFault }
 {
@@ -227,8 +231,8 @@ fn count_fault<T>(faults: &mut u64, answer: io::Result<T>) -> Result<T, StoreFau
 }
 
 // Whether a status tells of a file. A folder, a pipe or a device is none.
-fn tells_file(status: io::Result<Metadata>) -> io::Result<bool>
-    ensures { TellsFile status result }
+fn reports_file(status: io::Result<Metadata>) -> io::Result<bool>
+    ensures { ReportsFile status result }
 {
     match status {
         Ok(status) => Ok(status.is_file()),
@@ -238,8 +242,8 @@ fn tells_file(status: io::Result<Metadata>) -> io::Result<bool>
 }
 
 // The removal of what is not there is done.
-fn tells_removed(removal: io::Result<()>) -> io::Result<()>
-    ensures { TellsRemoved removal result }
+fn reports_removed(removal: io::Result<()>) -> io::Result<()>
+    ensures { ReportsRemoved removal result }
 {
     match removal {
         Err(error) if error.kind() == ErrorKind::NotFound => Ok(()),
@@ -248,8 +252,8 @@ fn tells_removed(removal: io::Result<()>) -> io::Result<()>
 }
 
 // An entry of a folder. A name that is no text is passed over.
-fn tells_entry<T>(entry: io::Result<T>) -> io::Result<Option<T>>
-    ensures { TellsEntry entry result }
+fn reports_entry<T>(entry: io::Result<T>) -> io::Result<Option<T>>
+    ensures { ReportsEntry entry result }
 {
     match entry {
         Ok(entry) => Ok(Some(entry)),
@@ -278,7 +282,7 @@ fn name_of_file<R: Files>(
     ensures { IfOk result (λ found. IfSome found (λ name. IsFileName (string_bytes name))) }
 {
     let name = entry.file_name();
-    if !is_file_name(name) || !tells_file(fs::metadata(rt, entry.path()))? {
+    if !is_file_name(name) || !reports_file(fs::metadata(rt, entry.path()))? {
         return Ok(None);
     }
     Ok(Some(String::from_str(alloc, name)?))
@@ -295,7 +299,7 @@ fn add_file<R: Files + Drop>(
     requires { All IsFileName (names_of names.old.items) }
     ensures { All IsFileName (names_of names.new.items) }
 {
-    if let Some(entry) = tells_entry(entry)? {
+    if let Some(entry) = reports_entry(entry)? {
         if let Some(name) = name_of_file(rt, alloc, &entry)? {
             names.push(name)?;
         }
@@ -345,7 +349,7 @@ fn read_named<R: Files>(
         return Ok(None);
     }
     let path = path_of(alloc, folder, name)?;
-    if !tells_file(fs::metadata(rt, path.as_path()))? {
+    if !reports_file(fs::metadata(rt, path.as_path()))? {
         return Ok(None);
     }
     Ok(Some(read_front(rt, alloc, path.as_path())?))
@@ -382,5 +386,5 @@ fn rename_named<R: Files + AllocGlobal>(
 
 fn remove_named<R: Files + AllocGlobal>(rt: &R, folder: &str, name: &str) -> io::Result<()> {
     let path = path_of(rt.alloc(), folder, name)?;
-    tells_removed(fs::remove_file(rt, path.as_path()))
+    reports_removed(fs::remove_file(rt, path.as_path()))
 }

@@ -11,20 +11,20 @@ use std::marker::Model;
 // read it: it takes no room, and its methods do nothing at run time. That a note tells what was
 // done is the author's word, which tests check over a double of the system's files.
 #[derive(Drop)]
-pub(crate) struct Log {
+pub(crate) struct FolderLog {
     pub ghost events: { List Event },
 }
 
-impl Model for Log {
+impl Model for FolderLog {
     ghost also_owns = { λ _. ftrue };
 }
 
 // It owns nothing.
-unsafe impl Send for Log {}
+unsafe impl Send for FolderLog {}
 
 // A call, with what it was given and what it answered.
 #[derive(Clone, Copy, Drop)]
-pub(crate) enum Note<'a> {
+pub(crate) enum FolderNote<'a> {
     List(&'a Result<Vec<String>, StoreFault>),
     Read(&'a str, &'a Result<Option<Vec<u8>>, StoreFault>),
     Write(&'a str, &'a [u8], bool),
@@ -33,23 +33,23 @@ pub(crate) enum Note<'a> {
     Remove(&'a str, bool),
 }
 
-impl Log {
+impl FolderLog {
     ghost use Rattle.druid_folder_store.specs.Noted.{event_of};
 
-    pub(crate) fn new() -> Log
+    pub(crate) fn new() -> FolderLog
         ensures { result.events ≡ [] }
     {
-        Log {}
+        FolderLog {}
     }
 
-    pub(crate) fn then(&self, _note: &Note<'_>) -> Log
+    pub(crate) fn then(&self, _note: &FolderNote<'_>) -> FolderLog
         ensures { result.events ≡ event_of _note.now ∷ self.now.events }
     {
-        Log {}
+        FolderLog {}
     }
 }
 
-impl Note<'_> {
+impl FolderNote<'_> {
     ghost use Rattle.druid_folder_store.specs.Noted.{event_of};
 
     // Whether it was no write and no sync that failed.
@@ -57,7 +57,7 @@ impl Note<'_> {
         ensures { result ≡ is_kept (event_of self.now) }
     {
         match *self {
-            Note::Write(_, _, done) | Note::Sync(done) => done,
+            FolderNote::Write(_, _, done) | FolderNote::Sync(done) => done,
             _ => true,
         }
     }
@@ -66,7 +66,7 @@ impl Note<'_> {
 // The calls made on a folder of the system, and whether no write and no sync among them failed.
 #[derive(Drop)]
 pub(crate) struct Calls {
-    pub(crate) log: Log,
+    pub(crate) log: FolderLog,
     pub(crate) all_kept: bool,
     ghost valid: { all_kept ≡ true → AreKept log.events },
 }
@@ -78,13 +78,13 @@ impl Calls {
         ensures { result.log.events ≡ [] }
     {
         Calls {
-            log: Log::new(),
+            log: FolderLog::new(),
             all_kept: true,
         }
     }
 
     // These, and one more.
-    pub(crate) fn then(&self, note: &Note<'_>) -> Calls
+    pub(crate) fn then(&self, note: &FolderNote<'_>) -> Calls
         ensures { result.log.events ≡ event_of note.now ∷ self.now.log.events }
     {
         Calls {

@@ -4,7 +4,7 @@ use Rattle.std.proofs.lemmas.List.Elements.{All-weaker}
 use Rattle.httparse.specs.Grammar.{is_token_byte, IsToken}
 use Rattle.http_header.specs.Token as header
 use Rattle.druid_http_wire.specs.Frame.{IsFramed}
-use Rattle.druid_http_wire.specs.HeadParts.{TellsRequest, TellsResponse, LacksBody}
+use Rattle.druid_http_wire.specs.HeadParts.{ReportsRequest, ReportsResponse, LacksBody}
 use Rattle.druid_http_wire.specs.Messages.{RequestSays, ResponseSays, HasFault}
 use Rattle.druid_http_message.specs.declared.fault.WireFault.{WireFault}
 use Rattle.druid_http_message.specs.declared.fault.WireFault.TheVariants.{Cut, Read, Write, BadHead, HeadTooLong, NoLength, BodyTooLong, Connect, Memory}
@@ -42,8 +42,8 @@ bodiless Says (Some input) b bytes kept n f h e s l =
     bodiless_in Says input bytes h.0 n f (subst (λ (bs : List ℕ). IsFramed input bs h.0) (sym e) h.2) s
     (subst (λ (o : Option (List ℕ)). IfSome o (λ rest. LacksBody rest n f)) h.1 l)
 
-pub request_said : (bytes : List ℕ) (parts : RequestParts) → TellsRequest bytes parts → RequestSays bytes (Ok parts.length)
+pub request_said : (bytes : List ℕ) (parts : RequestParts) → ReportsRequest bytes parts → RequestSays bytes (Ok parts.length)
 request_said bytes parts t = (t.head, t.reads, t.whole)
 
-pub response_said : (bytes : List ℕ) (parts : ResponseParts) → TellsResponse bytes parts → ResponseSays bytes (Ok parts.length)
+pub response_said : (bytes : List ℕ) (parts : ResponseParts) → ReportsResponse bytes parts → ResponseSays bytes (Ok parts.length)
 response_said bytes parts t = (t.head, t.reads, t.whole)

@@ -4,7 +4,7 @@ use Rattle.std.proofs.lemmas.List.{take-append-drop, length-take-le}
 use Rattle.druid_http_message.specs.declared.fault.WireFault.{WireFault}
 use Rattle.druid_http_message.specs.declared.fault.WireFault.TheVariants.{Cut, Read, Write, BadHead, HeadTooLong, NoLength, BodyTooLong, Connect, Memory}
 use Rattle.druid_http_wire.specs.Frame.{text_of, IsFramed}
-use Rattle.druid_http_wire.specs.HeadParts.{TellsRequest, LacksHead}
+use Rattle.druid_http_wire.specs.HeadParts.{ReportsRequest, LacksHead}
 use Rattle.druid_http_wire.specs.Messages.{RequestSays, HasFault, IsOfBytes}
 use Rattle.druid_http_wire.specs.Missing.{IsAnswerable, LacksMore}
 use Rattle.druid_http_wire.specs.declared.head.RequestParts.{RequestParts}
@@ -41,19 +41,19 @@ overlong input Connect lacks is other = absurd is
 overlong input Memory lacks is other = absurd is
 
 -- as many bytes follow the head as it says, or more
-pub whole : (input head rest : List ℕ) (parts : RequestParts) → IsFramed input head rest → TellsRequest head parts → parts.length ≤ length rest → IsAnswerable input
-whole input head rest parts framed tells enough =
+pub whole : (input head rest : List ℕ) (parts : RequestParts) → IsFramed input head rest → ReportsRequest head parts → parts.length ≤ length rest → IsAnswerable input
+whole input head rest parts framed reports enough =
     inl (
-      record { method = tells.head.method; target = tells.head.target; body = take parts.length rest },
+      record { method = reports.head.method; target = reports.head.target; body = take parts.length rest },
       drop parts.length rest,
       record {
         bytes = head;
-        head = tells.head;
+        head = reports.head;
         framed = subst (λ (l : List ℕ). IsFramed input head l) (sym (take-append-drop parts.length rest)) framed;
-        reads = tells.reads;
+        reads = reports.reads;
         method = refl;
         target = refl;
-        whole = tells.whole ∙ ap (λ (n : ℕ). Ok n) (sym (length-take-le parts.length rest enough));
+        whole = reports.whole ∙ ap (λ (n : ℕ). Ok n) (sym (length-take-le parts.length rest enough));
       },
     )
 
@@ -69,15 +69,15 @@ further input head rest more framed = record {
 }
 
 -- fewer do
-pub body_lacks : (input head rest : List ℕ) (parts : RequestParts) → IsFramed input head rest → TellsRequest head parts → length rest < parts.length
+pub body_lacks : (input head rest : List ℕ) (parts : RequestParts) → IsFramed input head rest → ReportsRequest head parts → length rest < parts.length
     → LacksMore input (parts.length - length rest)
-body_lacks input head rest parts framed tells short = record {
+body_lacks input head rest parts framed reports short = record {
   some = omega (arith, short);
   few =
-      let fits = request_within head parts tells in
+      let fits = request_within head parts reports in
       let is : length input ≡ length (text_of framed.blank ++ (head ++ rest)) = ap length framed.is in
       omega (arith, short, fits, framed.short, is, length-append (text_of framed.blank) (head ++ rest), length-append head rest);
   whole = λ more count.
-      whole (input ++ more) head (rest ++ more) parts (further input head rest more framed) tells
+      whole (input ++ more) head (rest ++ more) parts (further input head rest more framed) reports
       (omega (arith, short, count, length-append rest more));
 }

@@ -3,7 +3,7 @@ use Rattle.std.proofs.Common.{◌≡◌, ℕ, ◌<◌, Bool, true, false, List, 
 use Rattle.httparse.specs.Spans.{name_and_value}
 use Rattle.druid_http_wire.specs.Frame.{IsFramed}
 use Rattle.druid_http_wire.specs.Heads.{NameAndValue, is_coded, length_in}
-use Rattle.druid_http_wire.specs.HeadParts.{TellsResponse, LacksHead}
+use Rattle.druid_http_wire.specs.HeadParts.{ReportsResponse, LacksHead}
 use Rattle.druid_http_wire.specs.Messages.{length_or, body_length, HasFault, IsOfBytes, IsResponse, RequestSays, ResponseSays}
 use Rattle.druid_http_message.specs.declared.fault.WireFault.{WireFault}
 use Rattle.druid_http_message.specs.declared.fault.WireFault.TheVariants.{Cut, Read, Write, BadHead, HeadTooLong, NoLength, BodyTooLong, Connect, Memory}
@@ -91,8 +91,8 @@ request_head_faulty (Some input) b bytes kept f h e says =
 pub response_head_faulty : (input head rest : List ℕ) (f : WireFault) → IsFramed input head rest → ResponseSays head (Err f) → HasFault ResponseSays input f
 response_head_faulty input head rest f framed says = head_faulty ResponseSays input head rest f framed says (of_response head f says)
 
-pub body_cut : (input head rest : List ℕ) (parts : ResponseParts) → IsFramed input head rest → TellsResponse head parts → length rest < parts.length → HasFault ResponseSays input Cut
-body_cut input head rest parts framed tells short = inr (head, rest, parts.length, framed, response_said head parts tells, short)
+pub body_cut : (input head rest : List ℕ) (parts : ResponseParts) → IsFramed input head rest → ReportsResponse head parts → length rest < parts.length → HasFault ResponseSays input Cut
+body_cut input head rest parts framed reports short = inr (head, rest, parts.length, framed, response_said head parts reports, short)
 
 bytes_fault : (f : WireFault) → IsOfHead f → IsOfBytes f
 bytes_fault Cut is = tt

@@ -27,7 +27,7 @@ module _ (R : Responding) (Stays : Type 0) (request : RequestValue) (before afte
 -- no request was read
 module _ (R : Responding) (Stays : Type 0) (before after old new : Option (List ℕ)) (fault : WireFault) (has : IfSome before (λ input. HasFault RequestSays input fault)) (stays : Stays) where
   is_refused : (text : List ℕ) → refusal_text fault ≡ Some text → IsRefused before 400 text
-  is_refused text e = record { fault = fault; has = has; tells = e; status_is = refl }
+  is_refused text e = record { fault = fault; has = has; text_is = e; status_is = refl }
 
   pub refused : (sent : ℕ) → (text : List ℕ) × (refusal_text fault ≡ Some text) × IsSent old new 400 text sent → IsServed R Stays before after old new sent
   refused sent (text, e, is) = record { status = 400; body = text; served = inr (is_refused text e, stays); is_sent = is }

@@ -7,7 +7,7 @@ use Rattle.druid_stream.proofs.TakenLemmas.{takes_more}
 use Rattle.druid_http_message.specs.declared.fault.WireFault.{WireFault}
 use Rattle.druid_http_message.specs.declared.fault.WireFault.TheVariants.{Cut, Read, Write, BadHead, HeadTooLong, NoLength, BodyTooLong, Connect, Memory}
 use Rattle.druid_http_wire.specs.Frame.{text_of, IsFramed}
-use Rattle.druid_http_wire.specs.HeadParts.{TellsRequest, TellsResponse, LacksBody}
+use Rattle.druid_http_wire.specs.HeadParts.{ReportsRequest, ReportsResponse, LacksBody}
 use Rattle.druid_http_wire.specs.Limits.{max_head, max_body, most_taken}
 use Rattle.druid_http_wire.specs.declared.head.RequestParts.{RequestParts}
 use Rattle.druid_http_wire.specs.declared.head.ResponseParts.{ResponseParts}
@@ -56,9 +56,9 @@ memory_refused n f a b c head e took more fits = subst (λ (g : WireFault). Take
 
 -- ---- what a head says of the body is within the limit
 
-pub request_within : (bytes : List ℕ) (parts : RequestParts) → TellsRequest bytes parts → parts.length ≤ max_body
-request_within bytes parts tells =
-    body_within (bytes_eq tells.head.method (codes "POST")) (map name_and_value tells.head.fields) parts.length tells.whole
+pub request_within : (bytes : List ℕ) (parts : RequestParts) → ReportsRequest bytes parts → parts.length ≤ max_body
+request_within bytes parts reports =
+    body_within (bytes_eq reports.head.method (codes "POST")) (map name_and_value reports.head.fields) parts.length reports.whole
 
-pub response_within : (bytes : List ℕ) (parts : ResponseParts) → TellsResponse bytes parts → parts.length ≤ max_body
-response_within bytes parts tells = body_within true (map name_and_value tells.head.fields) parts.length tells.whole
+pub response_within : (bytes : List ℕ) (parts : ResponseParts) → ReportsResponse bytes parts → parts.length ≤ max_body
+response_within bytes parts reports = body_within true (map name_and_value reports.head.fields) parts.length reports.whole

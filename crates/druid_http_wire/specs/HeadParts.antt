@@ -9,7 +9,7 @@ use Rattle.druid_http_wire.specs.Messages.{IsRequestHead, IsResponseHead, reques
 use Rattle.druid_http_wire.specs.declared.head.RequestParts.{RequestParts}
 use Rattle.druid_http_wire.specs.declared.head.ResponseParts.{ResponseParts}
 
-pub record TellsRequest (bytes : List ℕ) (parts : RequestParts) : Type 0 where
+pub record ReportsRequest (bytes : List ℕ) (parts : RequestParts) : Type 0 where
   pub head : RequestHead
   pub reads : IsRequestHead bytes head
   pub method : span_bytes bytes parts.method ≡ head.method
@@ -42,7 +42,7 @@ LacksBody input count BodyTooLong = ⊥
 LacksBody input count Connect = ⊥
 LacksBody input count Memory = ⊤
 
-pub record TellsResponse (bytes : List ℕ) (parts : ResponseParts) : Type 0 where
+pub record ReportsResponse (bytes : List ℕ) (parts : ResponseParts) : Type 0 where
   pub head : ResponseHead
   pub reads : IsResponseHead bytes head
   pub code : parts.status ≡ status_code head

@@ -10,14 +10,14 @@ use Rattle.druid_http_message.specs.declared.fault.WireFault.TheVariants.{Cut, R
 use Rattle.druid_http_wire.specs.Limits.{max_body}
 
 -- the answer has this status and this body
-pub record Tells (wanted : ℕ) (text : List ℕ) (status : ℕ) (body : List ℕ) : Type 0 where
+pub record Reports (wanted : ℕ) (text : List ℕ) (status : ℕ) (body : List ℕ) : Type 0 where
   pub status_is : status ≡ wanted
   pub body_is : body ≡ text
 
 -- an answer where the method is the one that the path takes
 abbrev pub Allows : Bool → (ℕ → List ℕ → Type 0) → ℕ → List ℕ → Type 0
 Allows true P status body = P status body
-Allows false P status body = Tells 405 (codes "{\"error\":\"Method\"}") status body
+Allows false P status body = Reports 405 (codes "{\"error\":\"Method\"}") status body
 
 -- an answer to a request that gets something
 abbrev pub Gets : RequestValue → (ℕ → List ℕ → Type 0) → ℕ → List ℕ → Type 0
@@ -25,7 +25,7 @@ Gets request P status body = Allows (bytes_eq request.method (codes "GET")) P st
 
 -- memory was refused for the answer
 abbrev pub IsOutOfMemory : ℕ → List ℕ → Type 0
-IsOutOfMemory status body = Tells 500 (codes "{\"error\":\"Memory\"}") status body
+IsOutOfMemory status body = Reports 500 (codes "{\"error\":\"Memory\"}") status body
 
 -- what is answered to what is no request; where the input is cut off, or was not read, nothing is
 abbrev pub refusal_text : WireFault → Option (List ℕ)
@@ -70,7 +70,7 @@ pub record IsAnswered (Responds : RequestValue → ℕ → List ℕ → Type 0) 
 pub record IsRefused (before : Option (List ℕ)) (status : ℕ) (body : List ℕ) : Type 0 where
   pub fault : WireFault
   pub has : IfSome before (λ input. HasFault RequestSays input fault)
-  pub tells : refusal_text fault ≡ Some body
+  pub text_is : refusal_text fault ≡ Some body
   pub status_is : status ≡ 400
 
 -- one or the other; where no request was read, what answers draw on stays

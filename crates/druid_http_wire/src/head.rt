@@ -2,7 +2,7 @@
 ghost use Rattle.std.specs.Prelude.{◌≡◌, ◌≤◌, length, map, All, IfOk, IfErr, Err};
 ghost use Rattle.httparse.specs.Spans.{IsHeaderWithin, header_bytes, IsRequestWithin, IsResponseWithin, IsRequestOf, IsResponseOf};
 ghost use Rattle.druid_http_wire.specs.Messages.{body_length, RequestSays, ResponseSays};
-ghost use Rattle.druid_http_wire.specs.HeadParts.{TellsRequest, TellsResponse};
+ghost use Rattle.druid_http_wire.specs.HeadParts.{ReportsRequest, ReportsResponse};
 
 use crate::length::{Length, is_coded, length_in};
 use crate::limits::MAX_FIELDS;
@@ -61,7 +61,7 @@ fn whole_request(
     requires within { IsRequestWithin head.now fields.now spans }
     requires found { IsRequestOf head.now fields.now spans }
     requires room { length fields.now ≤ 64 }
-    ensures ok { IfOk result (TellsRequest head.now) }
+    ensures ok { IfOk result (ReportsRequest head.now) }
     ensures err { IfErr result (λ fault. RequestSays head.now (Err fault)) }
 {
     if spans.len != head.len() {
@@ -80,7 +80,7 @@ fn whole_request(
 
 // What a framed head says, if it is the head of a request. Does not allocate.
 pub(crate) fn parse_request_head(head: &[u8]) -> Result<RequestParts, WireFault>
-    ensures ok { IfOk result (TellsRequest head.now) }
+    ensures ok { IfOk result (ReportsRequest head.now) }
     ensures err { IfErr result (λ fault. RequestSays head.now (Err fault)) }
 {
     let mut fields = [EMPTY_HEADER_SPAN; MAX_FIELDS];
@@ -101,7 +101,7 @@ fn whole_response(
     requires within { IsResponseWithin head.now fields.now spans }
     requires found { IsResponseOf head.now fields.now spans }
     requires room { length fields.now ≤ 64 }
-    ensures ok { IfOk result (TellsResponse head.now) }
+    ensures ok { IfOk result (ReportsResponse head.now) }
     ensures err { IfErr result (λ fault. ResponseSays head.now (Err fault)) }
 {
     if spans.len != head.len() {
@@ -118,7 +118,7 @@ fn whole_response(
 
 // What a framed head says, if it is the head of a response. Does not allocate.
 pub(crate) fn parse_response_head(head: &[u8]) -> Result<ResponseParts, WireFault>
-    ensures ok { IfOk result (TellsResponse head.now) }
+    ensures ok { IfOk result (ReportsResponse head.now) }
     ensures err { IfErr result (λ fault. ResponseSays head.now (Err fault)) }
 {
     let mut fields = [EMPTY_HEADER_SPAN; MAX_FIELDS];

@@ -9,10 +9,10 @@ mod laws;
 mod length;
 mod limits;
 mod missing;
-mod reading;
+mod reader;
 mod response;
-mod serving;
-mod writing;
+mod server;
+mod writer;
 
 pub use laws::{
     heads_are_framed, messages_are_of_the_grammar, one_head, one_request, one_response,
@@ -21,7 +21,7 @@ pub use laws::{
 };
 pub use limits::{MAX_BODY, MAX_FIELDS, MAX_HEAD};
 pub use missing::{Missing, missing_of};
-pub use reading::{read_request, read_response, response_of};
+pub use reader::{read_request, read_response, response_of};
 pub use response::Response;
-pub use serving::{refuse_request, send_response};
-pub use writing::{request_bytes, write_request, write_response};
+pub use server::{refuse_request, send_response};
+pub use writer::{request_bytes, write_request, write_response};

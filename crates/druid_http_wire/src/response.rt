@@ -4,10 +4,10 @@
 ghost use Rattle.std.specs.Prelude.{◌≡◌, IfOk, codes, string_bytes};
 ghost use Rattle.serde_json.specs.View.{view};
 ghost use Rattle.druid_http_wire.specs.Response.{error_text, field_data, field_text, text_of};
-ghost use Rattle.druid_http_wire.specs.Served.{Tells, Gets, IsOutOfMemory};
+ghost use Rattle.druid_http_wire.specs.Served.{Reports, Gets, IsOutOfMemory};
 ghost use Rattle.druid_http_wire.specs.Written.{joined};
 
-use crate::writing::join_pieces;
+use crate::writer::join_pieces;
 use druid_http_message::Request;
 use http::StatusCode;
 use serde_json::{Value, json};
@@ -79,7 +79,7 @@ impl Model for Response {
 impl Response {
     /// A response with a fixed body.
     pub fn of_static(status: StatusCode, text: &'static str) -> Response
-        ensures { Tells status text.now result.status result.body }
+        ensures { Reports status text.now result.status result.body }
     {
         Response {
             status,
@@ -89,7 +89,7 @@ impl Response {
 
     /// A response with a body that was made for it.
     pub fn of_text(status: StatusCode, text: String) -> Response
-        ensures { Tells status (string_bytes text) result.status result.body }
+        ensures { Reports status (string_bytes text) result.status result.body }
     {
         Response {
             status,
@@ -99,7 +99,7 @@ impl Response {
 
     /// A response that tells of a fault by its code, `{"error":"X4"}` and so on.
     pub fn of_error(status: StatusCode, code: &'static str) -> Response
-        ensures { Tells status (error_text code.now) result.status result.body }
+        ensures { Reports status (error_text code.now) result.status result.body }
     {
         Response {
             status,
@@ -118,7 +118,7 @@ impl Response {
         code: &str,
         field: &str,
     ) -> Result<Response, AllocError>
-        ensures { IfOk result (λ r. Tells status (field_text code.now field.now) r.status r.body) }
+        ensures { IfOk result (λ r. Reports status (field_text code.now field.now) r.status r.body) }
     {
         let text = field_text(alloc, code, field)?;
         Ok(Response::of_text(status, text))
@@ -126,7 +126,7 @@ impl Response {
 
     /// The response to a request for the health of a server: `true`, where it gets that.
     pub fn health(request: &Request) -> Response
-        ensures { Gets request.now (Tells 200 (codes "true")) result.status result.body }
+        ensures { Gets request.now (Reports 200 (codes "true")) result.status result.body }
     {
         if !request.has_method("GET") {
             return Response::other_method();
@@ -136,21 +136,21 @@ impl Response {
 
     /// The response to a method that the path does not take.
     pub fn other_method() -> Response
-        ensures { Tells 405 (codes "{\"error\":\"Method\"}") result.status result.body }
+        ensures { Reports 405 (codes "{\"error\":\"Method\"}") result.status result.body }
     {
         Response::of_error(StatusCode::METHOD_NOT_ALLOWED, "Method")
     }
 
     /// The response to a path that leads nowhere.
     pub fn no_route() -> Response
-        ensures { Tells 404 (codes "{\"error\":\"NoRoute\"}") result.status result.body }
+        ensures { Reports 404 (codes "{\"error\":\"NoRoute\"}") result.status result.body }
     {
         Response::of_error(StatusCode::NOT_FOUND, "NoRoute")
     }
 
     /// The response to parameters that are no ask.
     pub fn no_ask() -> Response
-        ensures { Tells 400 (codes "{\"error\":\"Y6\"}") result.status result.body }
+        ensures { Reports 400 (codes "{\"error\":\"Y6\"}") result.status result.body }
     {
         Response::of_error(StatusCode::BAD_REQUEST, "Y6")
     }
@@ -187,7 +187,7 @@ impl Response {
     ///
     /// Out of memory, unless the body is owned (read in the code).
     pub fn into_parts(self, alloc: Global) -> Result<(StatusCode, Vec<u8>), AllocError>
-        ensures { IfOk result (λ r. Tells self.status self.body r.0 r.1.items) }
+        ensures { IfOk result (λ r. Reports self.status self.body r.0 r.1.items) }
     {
         let Response { status, body } = self;
         match body {

@@ -20,7 +20,7 @@ use Rattle.druid_segment_descriptor.specs.Orders.{mark_cmp-total, mark_cmp-ties,
 use Rattle.druid_segment_descriptor.proofs.DescribedLemmas.{same_sets}
 use Rattle.druid_inventory.specs.Entry.{Entry}
 use Rattle.druid_inventory.specs.Equality.{same_entry, same_entries, same_entry-equiv}
-use Rattle.druid_inventory.specs.Join.{names_of, later, later_each, Conflict, ConflictAt, IsJoin, RefusesJoin, TellsJoin}
+use Rattle.druid_inventory.specs.Join.{names_of, later, later_each, Conflict, ConflictAt, IsJoin, RefusesJoin, ReportsJoin}
 use Rattle.druid_inventory.specs.Judged.{NoneLater}
 use Rattle.druid_inventory.proofs.TimelineLemmas.{found_beyond}
 use Rattle.druid_inventory.specs.declared.fault.JoinFault.{JoinFault}
@@ -289,26 +289,26 @@ one_refusal a b f faults.Memory h k = absurd k
 abbrev pub SomeJoin : List Entry → List Entry → Type 0
 SomeJoin a b = (joined : List Entry) × IsJoin a b joined
 
-what_tells : (a b : List Entry) (f : JoinFault) → TellsJoin a b f → RefusesJoin a b f ⊎ SomeJoin a b
-what_tells a b faults.OtherNodes h = inl h
-what_tells a b (faults.Conflict node) h = inl h
-what_tells a b faults.Memory h = inr h
+what_reports : (a b : List Entry) (f : JoinFault) → ReportsJoin a b f → RefusesJoin a b f ⊎ SomeJoin a b
+what_reports a b faults.OtherNodes h = inl h
+what_reports a b (faults.Conflict node) h = inl h
+what_reports a b faults.Memory h = inr h
 
 -- two inventories are not joined exactly where the answer says so
-pub join_refused : {X : Type 0} (r : Result X JoinFault) (a b : List Entry) → IfOk r (λ _. SomeJoin a b) → IfErr r (TellsJoin a b)
+pub join_refused : {X : Type 0} (r : Result X JoinFault) (a b : List Entry) → IfOk r (λ _. SomeJoin a b) → IfErr r (ReportsJoin a b)
     → (f : JoinFault) → f ≢ faults.Memory → (r ≡ Err f) ↔ RefusesJoin a b f
 join_refused (Ok x) a b ok reported f other = (λ e. absurd (cc), λ h. absurd (refused_or_joined a b ok.0 f h ok.1))
 join_refused {X} (Err g) a b ok reported f other = (
-  λ e. elim (what_tells a b g reported) [
+  λ e. elim (what_reports a b g reported) [
     | inl h ↦ let same : g ≡ f = cc in subst (RefusesJoin a b) same h
     | inr j ↦ memory_alone g f reported j (cc) other
   ],
-  λ h. elim (what_tells a b g reported) [
+  λ h. elim (what_reports a b g reported) [
     | inl k ↦ let same = one_refusal a b g f k h in (λ i. Err (same i))
     | inr j ↦ absurd (refused_or_joined a b j.0 f h j.1)
   ],
 ) where
-  memory_alone : (g f : JoinFault) → TellsJoin a b g → SomeJoin a b → g ≡ f → f ≢ faults.Memory → RefusesJoin a b f
+  memory_alone : (g f : JoinFault) → ReportsJoin a b g → SomeJoin a b → g ≡ f → f ≢ faults.Memory → RefusesJoin a b f
   memory_alone faults.OtherNodes f h j e other = subst (RefusesJoin a b) e h
   memory_alone (faults.Conflict node) f h j e other = subst (RefusesJoin a b) e h
   memory_alone faults.Memory f h j e other = absurd (other (sym e))

@@ -1,5 +1,5 @@
 pub mod ChangeLemmas
-pub mod ChangingLemmas
+pub mod ChangeOfTimelineLemmas
 pub mod EditLemmas
 pub mod EntryLemmas
 pub mod JoinLemmas

@@ -13,7 +13,7 @@ use Rattle.druid_segment_descriptor.specs.declared.reply.Body.{Body}
 use Rattle.druid_segment_descriptor.specs.declared.reply.Body.TheVariants.{Delta, Snapshot, Page, Reset}
 use Rattle.druid_inventory.specs.Entry.{Entry}
 use Rattle.druid_inventory.specs.Plan.{outcome_of, Fits, Leads, LeadsAt, IsPlanOf, IsPlanAt}
-use Rattle.druid_inventory.specs.Step.{Steps, StepsAt, Refuses, Tells, GoesOn, moved_to, tail_of}
+use Rattle.druid_inventory.specs.Step.{Steps, StepsAt, Refuses, Reports, GoesOn, moved_to, tail_of}
 use Rattle.druid_inventory.specs.declared.fault.ApplyFault.{ApplyFault}
 use Rattle.druid_inventory.specs.declared.fault.ApplyFault.TheVariants as faults
 use Rattle.druid_inventory.specs.declared.fault.Outcome.{Outcome}
@@ -68,15 +68,15 @@ no_memory e (Page at page of segments) h = h
 no_memory e (Reset cause at) h = h
 
 -- a refusal of the entry is reported
-pub refusal_told : (inventory : List Entry) (node : ℕ) (e : Entry) (body : Body) (f : ApplyFault) → slice_get inventory node ≡ Some e → Refuses e body f → Tells inventory node body f
-refusal_told inventory node e body faults.UnknownNode found h = absurd (no_unknown e body h)
-refusal_told inventory node e body faults.OtherIncarnation found h = (e, found, h)
-refusal_told inventory node e body faults.Gap found h = (e, found, h)
-refusal_told inventory node e body (faults.NotStrict index) found h = (e, found, h)
-refusal_told inventory node e body faults.TooMany found h = (e, found, h)
-refusal_told inventory node e body faults.Conflict found h = (e, found, h)
-refusal_told inventory node e body faults.PageConflict found h = (e, found, h)
-refusal_told inventory node e body faults.Memory found h = absurd (no_memory e body h)
+pub refusal_is_reported : (inventory : List Entry) (node : ℕ) (e : Entry) (body : Body) (f : ApplyFault) → slice_get inventory node ≡ Some e → Refuses e body f → Reports inventory node body f
+refusal_is_reported inventory node e body faults.UnknownNode found h = absurd (no_unknown e body h)
+refusal_is_reported inventory node e body faults.OtherIncarnation found h = (e, found, h)
+refusal_is_reported inventory node e body faults.Gap found h = (e, found, h)
+refusal_is_reported inventory node e body (faults.NotStrict index) found h = (e, found, h)
+refusal_is_reported inventory node e body faults.TooMany found h = (e, found, h)
+refusal_is_reported inventory node e body faults.Conflict found h = (e, found, h)
+refusal_is_reported inventory node e body faults.PageConflict found h = (e, found, h)
+refusal_is_reported inventory node e body faults.Memory found h = absurd (no_memory e body h)
 
 leads_somewhere : (plan : Plan) (e : Entry) → Fits plan e → (new : Entry) × Leads plan e new
 leads_somewhere (Replay to changes) e h = (moved_to e to h.2, (h.2, h.3, refl))
@@ -84,8 +84,8 @@ leads_somewhere (Replace at segments) e h = (moved_to e at segments.now, refl)
 leads_somewhere (Stay outcome) e h = (e, refl)
 
 -- where there is a plan, nothing is refused
-pub memory_told : (inventory : List Entry) (node : ℕ) (body : Body) (plan : Plan) → IsPlanAt inventory node body plan → Tells inventory node body faults.Memory
-memory_told inventory node body plan is =
+pub memory_is_reported : (inventory : List Entry) (node : ℕ) (body : Body) (plan : Plan) → IsPlanAt inventory node body plan → Reports inventory node body faults.Memory
+memory_is_reported inventory node body plan is =
     let to = leads_somewhere plan is.0 is.2.fits in
     (outcome_of plan, to.0, (is.0, is.1, is.2.steps to.0 to.1))
 

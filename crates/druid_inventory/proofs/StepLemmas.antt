@@ -21,7 +21,7 @@ use Rattle.druid_segment_descriptor.specs.declared.reply.Body.TheVariants.{Delta
 use Rattle.druid_segment_descriptor.proofs.DescribedLemmas.{same_described-decides}
 use Rattle.druid_segment_descriptor.proofs.ReplayLemmas.{changed-made, changed-not_strict, changed-no_room, replay_from-front}
 use Rattle.druid_inventory.specs.Entry.{Entry}
-use Rattle.druid_inventory.specs.Step.{Steps, Refuses, GoesOn, IsAhead, DeltaMoves, DeltaRefused, DeltaIsKnown, SnapshotIsKnown, SnapshotConflicts, SnapshotRefused, NotStrictAt, NoRoomAt, known_of, tail_of, moved_to, StepsAt, RefusedAt, Tells}
+use Rattle.druid_inventory.specs.Step.{Steps, Refuses, GoesOn, IsAhead, DeltaMoves, DeltaRefused, DeltaIsKnown, SnapshotIsKnown, SnapshotConflicts, SnapshotRefused, NotStrictAt, NoRoomAt, known_of, tail_of, moved_to, StepsAt, RefusedAt, Reports}
 use Rattle.druid_inventory.specs.declared.fault.Outcome.{Outcome}
 use Rattle.druid_inventory.specs.declared.fault.Outcome.TheVariants.{Moved, AlreadyHave, AskWhole, AskPages}
 use Rattle.druid_inventory.specs.declared.fault.ApplyFault.{ApplyFault}
@@ -380,7 +380,7 @@ SomeStep inventory node body = (o : Outcome) × (new : Entry) × StepsAt invento
 abbrev pub IsFound : List Entry → ℕ → Type 0
 IsFound inventory node = (e : Entry) × (slice_get inventory node ≡ Some e)
 
-found_unless : (inventory : List Entry) (node : ℕ) (body : Body) (f : ApplyFault) → (f ≡ faults.UnknownNode → ⊥) → Tells inventory node body f → IsFound inventory node
+found_unless : (inventory : List Entry) (node : ℕ) (body : Body) (f : ApplyFault) → (f ≡ faults.UnknownNode → ⊥) → Reports inventory node body f → IsFound inventory node
 found_unless inventory node body faults.UnknownNode other h = absurd (other refl)
 found_unless inventory node body faults.OtherIncarnation other h = (h.0, h.1)
 found_unless inventory node body faults.Gap other h = (h.0, h.1)
@@ -391,18 +391,18 @@ found_unless inventory node body faults.PageConflict other h = (h.0, h.1)
 found_unless inventory node body faults.Memory other h = (h.2.0, h.2.1)
 
 -- a refusal, or an outcome, or no such node
-what_tells : (inventory : List Entry) (node : ℕ) (body : Body) (f : ApplyFault) → Tells inventory node body f
+what_reports : (inventory : List Entry) (node : ℕ) (body : Body) (f : ApplyFault) → Reports inventory node body f
     → RefusedAt inventory node body f ⊎ SomeStep inventory node body ⊎ (slice_get inventory node ≡ None)
-what_tells inventory node body faults.UnknownNode h = inr (inr h)
-what_tells inventory node body faults.OtherIncarnation h = inl h
-what_tells inventory node body faults.Gap h = inl h
-what_tells inventory node body (faults.NotStrict index) h = inl h
-what_tells inventory node body faults.TooMany h = inl h
-what_tells inventory node body faults.Conflict h = inl h
-what_tells inventory node body faults.PageConflict h = inl h
-what_tells inventory node body faults.Memory h = inr (inl h)
+what_reports inventory node body faults.UnknownNode h = inr (inr h)
+what_reports inventory node body faults.OtherIncarnation h = inl h
+what_reports inventory node body faults.Gap h = inl h
+what_reports inventory node body (faults.NotStrict index) h = inl h
+what_reports inventory node body faults.TooMany h = inl h
+what_reports inventory node body faults.Conflict h = inl h
+what_reports inventory node body faults.PageConflict h = inl h
+what_reports inventory node body faults.Memory h = inr (inl h)
 
-refusal_reported : (inventory : List Entry) (node : ℕ) (body : Body) (f : ApplyFault) → f ≢ faults.UnknownNode → f ≢ faults.Memory → Tells inventory node body f
+refusal_reported : (inventory : List Entry) (node : ℕ) (body : Body) (f : ApplyFault) → f ≢ faults.UnknownNode → f ≢ faults.Memory → Reports inventory node body f
     → RefusedAt inventory node body f
 refusal_reported inventory node body faults.UnknownNode a b h = absurd (a refl)
 refusal_reported inventory node body faults.OtherIncarnation a b h = h
@@ -425,11 +425,11 @@ is_unknown faults.Memory = inr (λ e. cc)
 
 -- the node is unknown exactly where the answer says so
 pub unknown_exact : {X : Type 0} (r : Result X ApplyFault) (inventory : List Entry) (node : ℕ) (body : Body)
-    → IfOk r (λ _. SomeStep inventory node body) → IfErr r (Tells inventory node body)
+    → IfOk r (λ _. SomeStep inventory node body) → IfErr r (Reports inventory node body)
     → (r ≡ Err faults.UnknownNode) ↔ (slice_get inventory node ≡ None)
 unknown_exact (Ok x) inventory node body ok reported = (λ e. absurd (cc), λ none. absurd (none-some ok.2.0 (sym none ∙ ok.2.1)))
 unknown_exact {X} (Err f) inventory node body ok reported = elim (is_unknown f) [
-  | inl is ↦ (λ _. subst (Tells inventory node body) is reported, λ _ i. Err (is i))
+  | inl is ↦ (λ _. subst (Reports inventory node body) is reported, λ _ i. Err (is i))
   | inr other ↦
       let found = found_unless inventory node body f other reported in
       (λ e. absurd (other (cc)), λ none. absurd (none-some found.0 (sym none ∙ found.1)))
@@ -447,13 +447,13 @@ one_fault inventory node body f g a b =
 
 -- and a reply is refused exactly where it does
 pub refused_exact : {X : Type 0} (r : Result X ApplyFault) (inventory : List Entry) (node : ℕ) (body : Body)
-    → IfOk r (λ _. SomeStep inventory node body) → IfErr r (Tells inventory node body)
+    → IfOk r (λ _. SomeStep inventory node body) → IfErr r (Reports inventory node body)
     → (fault : ApplyFault) → fault ≢ faults.UnknownNode → fault ≢ faults.Memory → (r ≡ Err fault) ↔ RefusedAt inventory node body fault
 refused_exact (Ok x) inventory node body ok reported fault a b =
     (λ e. absurd (cc), λ refused. absurd (refused_or_stepped inventory node body fault refused ok))
 refused_exact {X} (Err f) inventory node body ok reported fault a b = (
-  λ e. let same : f ≡ fault = cc in refusal_reported inventory node body fault a b (subst (Tells inventory node body) same reported),
-  λ refused. elim (what_tells inventory node body f reported) [
+  λ e. let same : f ≡ fault = cc in refusal_reported inventory node body fault a b (subst (Reports inventory node body) same reported),
+  λ refused. elim (what_reports inventory node body f reported) [
     | inl other ↦ let same = one_fault inventory node body f fault other refused in (λ i. Err (same i))
     | inr (inl stepped) ↦ absurd (refused_or_stepped inventory node body fault refused stepped)
     | inr (inr none) ↦ absurd (none-some refused.0 (sym none ∙ refused.1))

@@ -41,6 +41,6 @@ RefusesJoin a b (faults.Conflict node) =
 RefusesJoin a b faults.Memory = ⊥
 
 -- the fault that tells why they are not joined; out of memory only where nothing else is refused
-abbrev pub TellsJoin : List Entry → List Entry → JoinFault → Type 0
-TellsJoin a b faults.Memory = (joined : List Entry) × IsJoin a b joined
-TellsJoin a b fault = RefusesJoin a b fault
+abbrev pub ReportsJoin : List Entry → List Entry → JoinFault → Type 0
+ReportsJoin a b faults.Memory = (joined : List Entry) × IsJoin a b joined
+ReportsJoin a b fault = RefusesJoin a b fault

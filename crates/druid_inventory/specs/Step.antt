@@ -129,8 +129,8 @@ abbrev pub RefusedAt : List Entry → ℕ → Body → ApplyFault → Type 0
 RefusedAt inventory node body fault = (e : Entry) × (slice_get inventory node ≡ Some e) × Refuses e body fault
 
 -- the fault that tells why a reply of a node is not applied
-abbrev pub Tells : List Entry → ℕ → Body → ApplyFault → Type 0
-Tells inventory node body faults.UnknownNode = slice_get inventory node ≡ None
+abbrev pub Reports : List Entry → ℕ → Body → ApplyFault → Type 0
+Reports inventory node body faults.UnknownNode = slice_get inventory node ≡ None
 -- out of memory only where nothing else is refused
-Tells inventory node body faults.Memory = (outcome : Outcome) × (new : Entry) × StepsAt inventory node body outcome new
-Tells inventory node body fault = RefusedAt inventory node body fault
+Reports inventory node body faults.Memory = (outcome : Outcome) × (new : Entry) × StepsAt inventory node body outcome new
+Reports inventory node body fault = RefusedAt inventory node body fault

@@ -8,14 +8,14 @@ ghost use Rattle.druid_inventory.specs.Entry.{Entry, max_nodes};
 ghost use Rattle.druid_inventory.specs.Moves.{Moves, MovesAt};
 ghost use Rattle.druid_inventory.specs.Timelines.{AreTimelines, AreTimelinesOf, IsInventory, ServesWith};
 
-use crate::known::Known;
+use crate::known::KnownNode;
 use crate::timelines::{ChangingTimelines, Timelines, change_set};
 use druid_segment_descriptor::{Change, Mark, NodeNo};
 use std::alloc::{AllocError, Global};
 use std::sync::Arc;
 
 // The entry of a node.
-pub(crate) fn entry_of(entries: &[Arc<Known, Global>], node: usize) -> &Known
+pub(crate) fn entry_of(entries: &[Arc<KnownNode, Global>], node: usize) -> &KnownNode
     requires { node < length entries.now }
     ensures { slice_get (map arc_value entries.now) node ≡ Some result.now }
 {
@@ -24,11 +24,11 @@ pub(crate) fn entry_of(entries: &[Arc<Known, Global>], node: usize) -> &Known
 
 // Puts an entry of a node in the place of the one that is there, and changes the timelines.
 pub(crate) fn put_entry(
-    entries: &mut Vec<Arc<Known, Global>>,
+    entries: &mut Vec<Arc<KnownNode, Global>>,
     timelines: &mut ChangingTimelines,
     alloc: Global,
     node: NodeNo,
-    entry: Arc<Known, Global>,
+    entry: Arc<KnownNode, Global>,
 ) -> Result<(), AllocError>
     requires node { node < vec_len entries.old }
     requires over { AreTimelinesOf (map arc_value entries.old.items) timelines.old }
@@ -45,7 +45,7 @@ pub(crate) fn put_entry(
 
 // Moves the entry of a node to another mark, by changes of its set. An entry that others share is copied first.
 fn advance_known(
-    entry: &mut Arc<Known, Global>,
+    entry: &mut Arc<KnownNode, Global>,
     timelines: &mut Timelines,
     alloc: Global,
     node: NodeNo,
@@ -69,7 +69,7 @@ fn advance_known(
 
 // Moves the entry of a node to another mark, by changes of its set.
 fn advance_entries(
-    entries: &mut Vec<Arc<Known, Global>>,
+    entries: &mut Vec<Arc<KnownNode, Global>>,
     timelines: &mut Timelines,
     alloc: Global,
     node: NodeNo,
@@ -93,7 +93,7 @@ fn advance_entries(
 
 // Moves the entry of a node to another mark, by changes of its set. What other inventories share is copied first.
 pub(crate) fn advance_shared(
-    entries: &mut Arc<Vec<Arc<Known, Global>>, Global>,
+    entries: &mut Arc<Vec<Arc<KnownNode, Global>>, Global>,
     timelines: &mut Arc<Timelines, Global>,
     alloc: Global,
     node: NodeNo,

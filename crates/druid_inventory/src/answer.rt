@@ -5,14 +5,14 @@ ghost use Rattle.druid_segment_descriptor.specs.Reply.{max_page};
 ghost use Rattle.druid_sync_pages.specs.Pages.{pages_in};
 ghost use Rattle.druid_inventory.specs.Entry.{page_of, whole_or_page, has_page, cause_of, answer_of};
 
-use crate::known::Known;
+use crate::known::KnownNode;
 use crate::replies::page_of_set;
 use druid_segment_descriptor::{Ask, Cause, MAX_PAGE, Mark, Reply};
 use druid_sync_pages::pages_of;
 use std::alloc::{AllocError, Global};
 
 // A page of all that the node serves at its mark.
-fn page_of(known: &Known, alloc: Global, page: u16) -> Result<Reply, AllocError>
+fn page_of(known: &KnownNode, alloc: Global, page: u16) -> Result<Reply, AllocError>
     requires synced { known.now.mark ≢ never }
     requires many { max_page < length known.now.set }
     requires there { page < pages_in (length known.now.set) }
@@ -22,7 +22,7 @@ fn page_of(known: &Known, alloc: Global, page: u16) -> Result<Reply, AllocError>
 }
 
 // All that the node serves at its mark, or the first page where that is too large for one message.
-fn whole_or_page(known: &Known, alloc: Global) -> Result<Reply, AllocError>
+fn whole_or_page(known: &KnownNode, alloc: Global) -> Result<Reply, AllocError>
     requires { known.now.mark ≢ never }
     ensures { IfOk result (λ reply. reply ≡ whole_or_page known.now) }
 {
@@ -33,7 +33,7 @@ fn whole_or_page(known: &Known, alloc: Global) -> Result<Reply, AllocError>
 }
 
 // Whether the mark is the node's, and all that it serves there is sent in pages, of which this is one.
-fn has_page(known: &Known, mark: Mark, page: u16) -> bool
+fn has_page(known: &KnownNode, mark: Mark, page: u16) -> bool
     ensures value { result ≡ has_page known.now mark page }
     ensures many { IsTrue result → max_page < length known.now.set }
     ensures there { IsTrue result → page < pages_in (length known.now.set) }
@@ -43,7 +43,7 @@ fn has_page(known: &Known, mark: Mark, page: u16) -> bool
 }
 
 // Why a page at a mark is not to be had.
-fn cause_of(known: &Known, mark: Mark) -> Cause
+fn cause_of(known: &KnownNode, mark: Mark) -> Cause
     ensures { result ≡ cause_of known.now mark }
 {
     if mark.incarnation() == known.mark().incarnation() {
@@ -54,7 +54,7 @@ fn cause_of(known: &Known, mark: Mark) -> Cause
 }
 
 // What a broker that asks is answered of the node.
-pub(crate) fn answer_of(known: &Known, alloc: Global, ask: &Ask) -> Result<Reply, AllocError>
+pub(crate) fn answer_of(known: &KnownNode, alloc: Global, ask: &Ask) -> Result<Reply, AllocError>
     requires { known.now.mark ≢ never }
     ensures { IfOk result (λ reply. reply ≡ answer_of known.now ask.now) }
 {

@@ -7,7 +7,7 @@ ghost use Rattle.druid_inventory.specs.Entry.{Entry};
 ghost use Rattle.druid_inventory.specs.Timelines.{AreTimelines, ServesWith};
 
 use crate::merge::{loads_of, put_in, take_out};
-use crate::strict::note_each;
+use crate::strict_changes::note_each;
 use crate::timelines::Timelines;
 use crate::transactions::replay_timelines;
 use druid_segment_descriptor::{Change, Descriptor, MAX_CHANGES, NodeNo};

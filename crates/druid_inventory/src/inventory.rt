@@ -14,8 +14,8 @@ ghost use Rattle.druid_segment_descriptor.specs.ReplyBody.{IsReply};
 ghost use Rattle.druid_inventory.specs.Entry.{Entry, max_nodes, fresh, ask_of, IsEntryOf, IsAnswerOf, IsUnsynced};
 ghost use Rattle.druid_base.specs.Distinct.{AreDistinct};
 ghost use Rattle.druid_inventory.specs.Equality.{same_entries, same_entries-per, same_entries-equiv};
-ghost use Rattle.druid_inventory.specs.Join.{names_of, later_each, ConflictAt, IsJoin, RefusesJoin, TellsJoin};
-ghost use Rattle.druid_inventory.specs.Step.{StepsAt, RefusedAt, Tells, moved_to};
+ghost use Rattle.druid_inventory.specs.Join.{names_of, later_each, ConflictAt, IsJoin, RefusesJoin, ReportsJoin};
+ghost use Rattle.druid_inventory.specs.Step.{StepsAt, RefusedAt, Reports, moved_to};
 ghost use Rattle.druid_inventory.specs.declared.fault.ApplyFault.{ApplyFault};
 ghost use Rattle.druid_inventory.specs.Moves.{MovesAt};
 ghost use Rattle.druid_inventory.specs.Plan.{FitsAt, LeadsAt, IsPlanAt};
@@ -25,9 +25,9 @@ ghost use Rattle.druid_inventory.specs.Timelines.{AreTimelinesOf};
 use crate::advance::{advance_shared, entry_of, put_entry};
 use crate::answer::answer_of;
 use crate::join::{are_of_same_nodes, catch_up, first_conflict, has_later};
-use crate::judge::judge;
-use crate::known::{Known, copy_of};
+use crate::known::{KnownNode, copy_of};
 use crate::plan::Plan;
+use crate::reply_rules::judge;
 use crate::timelines::{ChangingTimelines, Timelines, begin_changes, end_changes, names_of};
 use crate::{ApplyFault, InventoryFault, JoinFault, Outcome};
 use druid_base::{TextList, are_distinct};
@@ -49,7 +49,7 @@ pub const MAX_NODES: usize = 64;
 #[derive(Debug, Drop)]
 pub struct Inventory {
     alloc: Global,
-    entries: Arc<Vec<Arc<Known, Global>>, Global>,
+    entries: Arc<Vec<Arc<KnownNode, Global>>, Global>,
     timelines: Arc<Timelines, Global>,
 }
 
@@ -85,12 +85,12 @@ impl TextList for NameList<'_> {
 }
 
 // The entries of nodes that were never synced.
-fn fresh_entries(alloc: Global, names: Vec<Name>) -> Result<Vec<Arc<Known, Global>>, AllocError>
+fn fresh_entries(alloc: Global, names: Vec<Name>) -> Result<Vec<Arc<KnownNode, Global>>, AllocError>
     ensures { IfOk result (λ entries. map arc_value entries.items ≡ map fresh names.items) }
 {
     let mut entries = Vec::with_capacity(alloc, names.len())?;
     for name in names {
-        entries.push(Arc::new(alloc, Known::fresh(alloc, name))?)?;
+        entries.push(Arc::new(alloc, KnownNode::fresh(alloc, name))?)?;
     }
     Ok(entries)
 }
@@ -120,7 +120,7 @@ impl Inventory {
     // The inventory of these entries and the timelines over them.
     fn of(
         alloc: Global,
-        entries: Vec<Arc<Known, Global>>,
+        entries: Vec<Arc<KnownNode, Global>>,
         timelines: Timelines,
     ) -> Result<Inventory, AllocError>
         requires few { vec_len entries ≤ max_nodes }
@@ -137,7 +137,7 @@ impl Inventory {
     // The inventory of these entries and the timelines over them, which have changed.
     fn changed(
         alloc: Global,
-        entries: Vec<Arc<Known, Global>>,
+        entries: Vec<Arc<KnownNode, Global>>,
         timelines: ChangingTimelines,
     ) -> Result<Inventory, AllocError>
         requires few { vec_len entries ≤ max_nodes }
@@ -160,7 +160,7 @@ impl Inventory {
     }
 
     // The entries, shared.
-    fn copied_entries(&self) -> Result<Vec<Arc<Known, Global>>, AllocError>
+    fn copied_entries(&self) -> Result<Vec<Arc<KnownNode, Global>>, AllocError>
         ensures entries { IfOk result (λ entries. map arc_value entries.items ≡ self.now) }
         ensures few { IfOk result (λ entries. vec_len entries ≤ max_nodes) }
     {
@@ -183,7 +183,7 @@ impl Inventory {
     }
 
     // The entries, borrowed.
-    fn entries(&self) -> &[Arc<Known, Global>]
+    fn entries(&self) -> &[Arc<KnownNode, Global>]
         ensures value { map arc_value result.now ≡ self.now }
         ensures few { length result.now ≤ max_nodes }
     {
@@ -264,18 +264,18 @@ impl Inventory {
         ensures unknown { IsErrOf result ApplyFault.UnknownNode ↔ (slice_get self.now node ≡ None) }
         ensures refused { (fault : ApplyFault) → fault ≢ ApplyFault.UnknownNode → fault ≢ ApplyFault.Memory
             → IsErrOf result fault ↔ RefusedAt self.now node reply.now fault }
-        ensures reported { IfErr result (Tells self.now node reply.now) }
+        ensures reported { IfErr result (Reports self.now node reply.now) }
     {
         self.step_of(node, reply.body())
     }
 
     // What a reply of a node makes of the inventory, and its outcome.
-    #[tactic(auto, using(crate::proofs::PlanLemmas::memory_told, crate::proofs::PlanLemmas::carried))]
+    #[tactic(auto, using(crate::proofs::PlanLemmas::memory_is_reported, crate::proofs::PlanLemmas::carried))]
     fn step_of(&self, node: NodeNo, body: &Body) -> Result<(Inventory, Outcome), ApplyFault>
         requires { IsReply body.now }
         ensures ok { IfOk result (λ r. (new : Entry) × StepsAt self.now node body.now r.1 new
             × (r.0 ≡ slice_set self.now node new)) }
-        ensures reported { IfErr result (Tells self.now node body.now) }
+        ensures reported { IfErr result (Reports self.now node body.now) }
     {
         let plan = match self.plan_of(node, body) {
             Ok(plan) => plan,
@@ -299,19 +299,19 @@ impl Inventory {
         ensures unknown { IsErrOf result ApplyFault.UnknownNode ↔ (slice_get self.old node ≡ None) }
         ensures refused { (fault : ApplyFault) → fault ≢ ApplyFault.UnknownNode → fault ≢ ApplyFault.Memory
             → IsErrOf result fault ↔ RefusedAt self.old node reply.now fault }
-        ensures reported { IfErr result (Tells self.old node reply.now) }
+        ensures reported { IfErr result (Reports self.old node reply.now) }
     {
         self.step_in_place(node, reply.body())
     }
 
     // Applies a reply of a node in place, and its outcome.
-    #[tactic(auto, using(crate::proofs::PlanLemmas::memory_told, crate::proofs::PlanLemmas::carried))]
+    #[tactic(auto, using(crate::proofs::PlanLemmas::memory_is_reported, crate::proofs::PlanLemmas::carried))]
     fn step_in_place(&mut self, node: NodeNo, body: &Body) -> Result<Outcome, ApplyFault>
         requires { IsReply body.now }
         ensures ok { IfOk result (λ outcome. (new : Entry) × StepsAt self.old node body.now outcome new
             × (self.new ≡ slice_set self.old node new)) }
         ensures err { OnErr result (self.new ≡ self.old) }
-        ensures reported { IfErr result (Tells self.old node body.now) }
+        ensures reported { IfErr result (Reports self.old node body.now) }
     {
         let plan = match self.plan_of(node, body) {
             Ok(plan) => plan,
@@ -322,11 +322,11 @@ impl Inventory {
     }
 
     // What a reply of a node makes of its entry, or why it is refused.
-    #[tactic(auto, using(crate::proofs::PlanLemmas::refusal_told))]
+    #[tactic(auto, using(crate::proofs::PlanLemmas::refusal_is_reported))]
     fn plan_of<'a>(&self, node: NodeNo, body: &'a Body) -> Result<Plan<'a>, ApplyFault>
         requires { IsReply body.now }
         ensures ok { IfOk result (IsPlanAt self.now node body.now) }
-        ensures reported { IfErr result (Tells self.now node body.now) }
+        ensures reported { IfErr result (Reports self.now node body.now) }
     {
         let Some(known) = self.find(node) else {
             return Err(ApplyFault::UnknownNode);
@@ -370,7 +370,7 @@ impl Inventory {
         )
     }
 
-    fn find(&self, node: NodeNo) -> Option<&Known>
+    fn find(&self, node: NodeNo) -> Option<&KnownNode>
         ensures { option_copied result ≡ slice_get self.now node }
     {
         let known = self.entries.get(node as usize)?;
@@ -417,7 +417,7 @@ impl Inventory {
     }
 
     // What is known of a node that was synced. V2 where the list has no such node, and V3 where it was never synced.
-    fn find_synced(&self, node: NodeNo) -> Result<&Known, InventoryFault>
+    fn find_synced(&self, node: NodeNo) -> Result<&KnownNode, InventoryFault>
         ensures ok { IfOk result (λ known. (slice_get self.now node ≡ Some known.now) × (known.now.mark ≢ never)) }
         ensures unknown { IsErrOf result InventoryFault.UnknownNode ↔ (slice_get self.now node ≡ None) }
         ensures not_synced { IsErrOf result InventoryFault.NotSynced ↔ IsUnsynced self.now node }
@@ -485,7 +485,7 @@ impl Inventory {
             ↔ RefusesJoin self.now other.now JoinFault.OtherNodes }
         ensures conflict { (node : ℕ) → IsErrOf result (JoinFault.Conflict node)
             ↔ RefusesJoin self.now other.now (JoinFault.Conflict node) }
-        ensures reported { IfErr result (TellsJoin self.now other.now) }
+        ensures reported { IfErr result (ReportsJoin self.now other.now) }
     {
         self.judged_join(other)
     }
@@ -493,7 +493,7 @@ impl Inventory {
     // What this inventory and another are together, or why there is none.
     fn judged_join(&self, other: &Inventory) -> Result<Inventory, JoinFault>
         ensures ok { IfOk result (IsJoin self.now other.now) }
-        ensures reported { IfErr result (TellsJoin self.now other.now) }
+        ensures reported { IfErr result (ReportsJoin self.now other.now) }
     {
         let entries = self.entries();
         let others = other.entries();
@@ -527,7 +527,7 @@ impl Inventory {
     }
 
     // This inventory with each of these entries that is later.
-    fn caught_up(&self, others: &[Arc<Known, Global>]) -> Result<Inventory, AllocError>
+    fn caught_up(&self, others: &[Arc<KnownNode, Global>]) -> Result<Inventory, AllocError>
         requires { length self.now ≡ length others.now }
         ensures { IfOk result (λ inventory. inventory ≡ later_each self.now (map arc_value others.now)) }
     {

@@ -9,14 +9,14 @@ ghost use Rattle.druid_inventory.specs.Judged.{NoneLater};
 ghost use Rattle.druid_inventory.specs.Timelines.{AreTimelinesOf};
 
 use crate::advance::{entry_of, put_entry};
-use crate::known::{Known, are_same};
+use crate::known::{KnownNode, are_same};
 use crate::timelines::ChangingTimelines;
 use druid_segment_descriptor::NodeNo;
 use std::alloc::{AllocError, Global};
 use std::sync::Arc;
 
 // Whether the entries are of the same nodes, in one order.
-pub(crate) fn are_of_same_nodes(a: &[Arc<Known, Global>], b: &[Arc<Known, Global>]) -> bool
+pub(crate) fn are_of_same_nodes(a: &[Arc<KnownNode, Global>], b: &[Arc<KnownNode, Global>]) -> bool
     ensures { IsTrue result ↔ (names_of (map arc_value a.now) ≡ names_of (map arc_value b.now)) }
 {
     if a.len() != b.len() {
@@ -31,7 +31,7 @@ pub(crate) fn are_of_same_nodes(a: &[Arc<Known, Global>], b: &[Arc<Known, Global
 }
 
 // Whether two entries of a node have other sets at one mark.
-fn do_conflict(a: &Known, b: &Known) -> bool
+fn do_conflict(a: &KnownNode, b: &KnownNode) -> bool
     ensures { IsTrue result ↔ Conflict a.now b.now }
 {
     if a.mark() != b.mark() {
@@ -41,7 +41,10 @@ fn do_conflict(a: &Known, b: &Known) -> bool
 }
 
 // The least node of which the entries have other sets at one mark.
-pub(crate) fn first_conflict(a: &[Arc<Known, Global>], b: &[Arc<Known, Global>]) -> Option<NodeNo>
+pub(crate) fn first_conflict(
+    a: &[Arc<KnownNode, Global>],
+    b: &[Arc<KnownNode, Global>],
+) -> Option<NodeNo>
     requires long { length a.now ≡ length b.now }
     requires few { length a.now ≤ max_nodes }
     ensures { MatchOption result
@@ -58,14 +61,14 @@ pub(crate) fn first_conflict(a: &[Arc<Known, Global>], b: &[Arc<Known, Global>])
 }
 
 // Whether the second entry is of a later mark.
-fn is_older(a: &Known, b: &Known) -> bool
+fn is_older(a: &KnownNode, b: &KnownNode) -> bool
     ensures { result ≡ is_lt (mark_cmp a.now.mark b.now.mark) }
 {
     a.mark() < b.mark()
 }
 
 // Whether an entry of the second is later than that of its node in the first.
-pub(crate) fn has_later(a: &[Arc<Known, Global>], b: &[Arc<Known, Global>]) -> bool
+pub(crate) fn has_later(a: &[Arc<KnownNode, Global>], b: &[Arc<KnownNode, Global>]) -> bool
     requires { length a.now ≡ length b.now }
     ensures { result ≡ false → NoneLater (map arc_value a.now) (map arc_value b.now) }
 {
@@ -79,11 +82,11 @@ pub(crate) fn has_later(a: &[Arc<Known, Global>], b: &[Arc<Known, Global>]) -> b
 
 // Replaces the entry of a node by this one if it is later, and changes the timelines.
 pub(crate) fn catch_up(
-    entries: &mut Vec<Arc<Known, Global>>,
+    entries: &mut Vec<Arc<KnownNode, Global>>,
     timelines: &mut ChangingTimelines,
     alloc: Global,
     node: usize,
-    entry: &Arc<Known, Global>,
+    entry: &Arc<KnownNode, Global>,
 ) -> Result<(), AllocError>
     requires node { node < vec_len entries.old }
     requires few { vec_len entries.old ≤ max_nodes }

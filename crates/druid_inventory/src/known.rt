@@ -21,13 +21,13 @@ use std::marker::Model;
 
 // A node's name, how far its history has been followed, and what it serves at that mark, by identifier.
 #[derive(Debug, Drop)]
-pub(crate) struct Known {
+pub(crate) struct KnownNode {
     name: Name,
     mark: Mark,
     set: Vec<Descriptor>,
 }
 
-impl Model for Known {
+impl Model for KnownNode {
     ghost use Rattle.druid_inventory.specs.Entry.{Entry};
     ghost use Rattle.druid_inventory.specs.Timelines.{IsEntry};
 
@@ -38,12 +38,12 @@ impl Model for Known {
     ghost invariant = { λ a. IsEntry (record { name = a.name; mark = a.mark; set = a.set.items }) };
 }
 
-impl Known {
+impl KnownNode {
     // A node that was never synced.
-    pub(crate) fn fresh(alloc: Global, name: Name) -> Known
+    pub(crate) fn fresh(alloc: Global, name: Name) -> KnownNode
         ensures { result ≡ fresh name }
     {
-        Known {
+        KnownNode {
             name,
             mark: Mark::never(),
             set: Vec::new(alloc),
@@ -51,12 +51,12 @@ impl Known {
     }
 
     // The node at another mark, with another set.
-    pub(crate) fn with_set(&self, at: Mark, set: Vec<Descriptor>) -> Result<Known, AllocError>
+    pub(crate) fn with_set(&self, at: Mark, set: Vec<Descriptor>) -> Result<KnownNode, AllocError>
         requires set { IsSegmentSet set.items }
         requires incarnation { 1 ≤ at.incarnation }
         ensures { IfOk result (λ known. known ≡ moved_to self.now at set.items) }
     {
-        Ok(Known {
+        Ok(KnownNode {
             name: self.name.clone()?,
             mark: at,
             set,
@@ -134,11 +134,11 @@ impl Known {
     }
 }
 
-impl Clone for Known {
+impl Clone for KnownNode {
     ghost is_clone = { λ known copy. copy ≡ known };
 
-    fn clone(&self) -> Result<Known, AllocError> {
-        Ok(Known {
+    fn clone(&self) -> Result<KnownNode, AllocError> {
+        Ok(KnownNode {
             name: self.name.clone()?,
             mark: self.mark,
             set: self.set.clone()?,
@@ -146,13 +146,13 @@ impl Clone for Known {
     }
 }
 
-impl PartialEq for Known {
+impl PartialEq for KnownNode {
     ghost eq = { same_entry };
 
     ghost laws = { same_entry-per };
 
     #[tactic(auto, using(crate::proofs::JoinLemmas::equality_facts))]
-    fn eq(&self, other: &Known) -> bool
+    fn eq(&self, other: &KnownNode) -> bool
         ensures value { result ≡ same_entry self.now other.now }
         ensures same { IsTrue result ↔ (self.now ≡ other.now) }
     {

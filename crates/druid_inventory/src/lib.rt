@@ -10,14 +10,14 @@ mod changing_timeline;
 mod fault;
 mod inventory;
 mod join;
-mod judge;
 mod known;
 mod laws;
 mod merge;
 mod plan;
 mod replies;
+mod reply_rules;
 mod shared_timeline;
-mod strict;
+mod strict_changes;
 mod timelines;
 mod transactions;
 

@@ -8,7 +8,7 @@ ghost use Rattle.druid_segment_descriptor.specs.Replay.{IsSegmentSet};
 ghost use Rattle.druid_inventory.specs.Judged.{AreLast};
 ghost use Rattle.druid_inventory.specs.Merged.{exchanged, IsLoaded, NoneIs};
 
-use crate::strict::segment_of;
+use crate::strict_changes::segment_of;
 use druid_segment_descriptor::{Change, Descriptor, find_segment};
 use std::alloc::{AllocError, Global};
 

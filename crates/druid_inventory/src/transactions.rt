@@ -8,7 +8,7 @@ ghost use Rattle.druid_inventory.specs.Timelines.{kept, AreTimelines, ServesWith
 ghost use Rattle.druid_inventory.specs.Transactions.{edited, AreAfter, AreBefore, KeepsAfter, KeepsBefore, Begins, HasPlace, TakesHeld, ChangesHeld, Goes, TakesEdit, GoesOn, Makes, Settles};
 
 use crate::shared_timeline::SharedTimeline;
-use crate::strict::segment_of;
+use crate::strict_changes::segment_of;
 use crate::timelines::Timelines;
 use druid_segment_descriptor::{Change, NodeNo};
 use druid_segment_id::{Meter, Name};

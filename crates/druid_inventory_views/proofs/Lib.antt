@@ -2,5 +2,5 @@ pub mod FoldLemmas
 pub mod RisesLemmas
 pub mod FaultLemmas
 pub mod Beginnings
-pub mod Adding
-pub mod Placing
+pub mod AddLemmas
+pub mod PlaceLemmas

@@ -2,7 +2,7 @@
 use Rattle.std.specs.Prelude.{◌≢◌, ℕ, List}
 use Rattle.druid_segment_descriptor.specs.declared.reply.Body.{Body}
 use Rattle.druid_inventory.specs.Entry.{Entry}
-use Rattle.druid_inventory.specs.Step.{StepsAt, Tells}
+use Rattle.druid_inventory.specs.Step.{StepsAt, Reports}
 use Rattle.druid_inventory.specs.declared.fault.ApplyFault.{ApplyFault}
 use Rattle.druid_inventory.specs.declared.fault.ApplyFault.TheVariants as apply
 use Rattle.druid_inventory.specs.declared.fault.Outcome.{Outcome}
@@ -15,7 +15,7 @@ publish_fault apply.Memory = faults.Memory
 publish_fault fault = faults.Apply fault
 
 -- the fault that tells why a reply of a node is not published; out of memory only where nothing is to be refused
-abbrev pub TellsPublish : List Entry → ℕ → Body → PublishFault → Type 0
-TellsPublish inventory node body (faults.Apply fault) = (fault ≢ apply.Memory) × Tells inventory node body fault
-TellsPublish inventory node body faults.NoReading = ⊥
-TellsPublish inventory node body faults.Memory = (outcome : Outcome) × (new : Entry) × StepsAt inventory node body outcome new
+abbrev pub ReportsPublish : List Entry → ℕ → Body → PublishFault → Type 0
+ReportsPublish inventory node body (faults.Apply fault) = (fault ≢ apply.Memory) × Reports inventory node body fault
+ReportsPublish inventory node body faults.NoReading = ⊥
+ReportsPublish inventory node body faults.Memory = (outcome : Outcome) × (new : Entry) × StepsAt inventory node body outcome new

@@ -6,19 +6,19 @@
 mod book;
 mod fault;
 mod laws;
-mod opening;
 mod publication;
 mod publisher;
 mod receipt;
 mod rule;
 mod shown;
+mod start;
 mod view;
 
 pub use book::Opened;
 pub use fault::PublishFault;
 pub use laws::{folds_go_on, folds_keep_names, marks_never_fall};
-pub use opening::{MAX_PLACES, open};
 pub use publication::Publication;
 pub use publisher::Publisher;
 pub use receipt::Receipt;
+pub use start::{MAX_PLACES, open};
 pub use view::View;

@@ -9,7 +9,7 @@ ghost use Rattle.druid_inventory.specs.Entry.{Entry};
 ghost use Rattle.druid_inventory.specs.Step.{StepsAt, RefusedAt};
 ghost use Rattle.druid_inventory.specs.declared.fault.ApplyFault.{ApplyFault};
 ghost use Rattle.druid_inventory.specs.declared.fault.Outcome.TheVariants.{Moved};
-ghost use Rattle.druid_inventory_views.specs.Faults.{publish_fault, TellsPublish};
+ghost use Rattle.druid_inventory_views.specs.Faults.{publish_fault, ReportsPublish};
 ghost use Rattle.druid_inventory_views.specs.Places.{known, IsAlike};
 ghost use Rattle.druid_inventory_views.specs.Fold.{fold_of, step_by};
 
@@ -217,7 +217,7 @@ impl<J: Publication, R: Wait + Drop> Publisher<J, R> {
         ensures shown { OnOk result ((fold_of J.opening self.new.shown ≡ self.new.inventory)
             ⊎ (self.new.shown ≡ self.old.shown)) }
         ensures stays { OnErr result (self.new ≡ self.old) }
-        ensures fault { IfErr result (TellsPublish self.old.inventory node reply.now) }
+        ensures fault { IfErr result (ReportsPublish self.old.inventory node reply.now) }
         ensures unknown { IsErrOf result (PublishFault.Apply ApplyFault.UnknownNode) ↔ (slice_get self.old.inventory node ≡ None) }
         ensures refused { (fault : ApplyFault) → fault ≢ ApplyFault.UnknownNode → fault ≢ ApplyFault.Memory
             → IsErrOf result (PublishFault.Apply fault) ↔ RefusedAt self.old.inventory node reply.now fault }
@@ -240,7 +240,7 @@ impl<J: Publication, R: Wait + Drop> Publisher<J, R> {
         ensures shown { OnOk result ((fold_of J.opening self.new.shown ≡ self.new.inventory)
             ⊎ (self.new.shown ≡ self.old.shown)) }
         ensures stays { OnErr result (self.new ≡ self.old) }
-        ensures fault { IfErr result (TellsPublish self.old.inventory node reply.now) }
+        ensures fault { IfErr result (ReportsPublish self.old.inventory node reply.now) }
     {
         let (inventory, outcome) = match self.inventory.apply(node, reply) {
             Ok(made) => made,

@@ -26,7 +26,7 @@ use Rattle.druid_broker_scatter.specs.Gathered.{Exchange, AreAsked}
 use Rattle.druid_broker_scatter.specs.Plan.{Pair, asked_of, AreReplicas, IsPlanOf}
 use Rattle.druid_broker_scatter.proofs.ExactLemmas.{exact}
 use Rattle.druid_broker_scatter.proofs.LawLemmas.{may_be_asked}
-use Rattle.druid_broker.specs.Queries.{TellsRows, AnswersRows, AnswersQuery, WantsMemory}
+use Rattle.druid_broker.specs.Queries.{ReportsRows, AnswersRows, AnswersQuery, WantsMemory}
 use Rattle.druid_broker.specs.Routes.{Route, AnswersPost}
 use Rattle.druid_http_wire.specs.Served.{IsOutOfMemory}
 use Rattle.druid_broker.specs.Routes as routes
@@ -81,17 +81,17 @@ holding world inventory source held of_world at x = (
 some_piece : (a : Asked) (more : List Asked) → a ∷ more ≡ [] → ⊥
 some_piece a more e = cc
 
-whole : (query : Query) (missing : List Asked) (groups : List Group) (status : ℕ) (body : List ℕ) → TellsRows query missing groups status body
+whole : (query : Query) (missing : List Asked) (groups : List Group) (status : ℕ) (body : List ℕ) → ReportsRows query missing groups status body
     → (status ≡ 200) ↔ (missing ≡ [])
 whole query [] groups status body reported = ((λ e. refl), (λ e. reported.status_is))
 whole query (a ∷ more) groups status body reported = ((λ e. let no : 200 ≡ 503 = sym e ∙ reported.status_is in absurd (omega (arith, no))), (λ e. absurd (some_piece a more e)))
 
-rows : (query : Query) (missing : List Asked) (groups : List Group) (status : ℕ) (body : List ℕ) → TellsRows query missing groups status body
+rows : (query : Query) (missing : List Asked) (groups : List Group) (status : ℕ) (body : List ℕ) → ReportsRows query missing groups status body
     → status ≡ 200 → body ≡ result_text query groups
 rows query [] groups status body reported e = reported.body_is
 rows query (a ∷ more) groups status body reported e = let no : 200 ≡ 503 = sym e ∙ reported.status_is in absurd (omega (arith, no))
 
-short : (query : Query) (missing : List Asked) (groups : List Group) (status : ℕ) (body : List ℕ) → TellsRows query missing groups status body
+short : (query : Query) (missing : List Asked) (groups : List Group) (status : ℕ) (body : List ℕ) → ReportsRows query missing groups status body
     → (status ≡ 200 → ⊥) → (status ≡ 503) × (body ≡ shortfall_text query missing groups)
 short query [] groups status body reported other = absurd (other reported.status_is)
 short query (a ∷ more) groups status body reported other = (reported.status_is, reported.body_is)

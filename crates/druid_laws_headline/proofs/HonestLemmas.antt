@@ -19,10 +19,10 @@ use Rattle.druid_query_text.proofs.SubBackLemmas.{sub_back}
 use Rattle.druid_partial.specs.Groups.{Group, IsResult}
 use Rattle.druid_partial.specs.Partials.{kinds_of}
 use Rattle.druid_partial_scan.specs.Once.{segment_named, counted_in, counted_of, counted_groups}
-use Rattle.druid_partial_text.specs.Read.{TellsGroups}
+use Rattle.druid_partial_text.specs.Read.{ReportsGroups}
 use Rattle.druid_query.specs.PieceOrder.{same_asked-true}
 use Rattle.druid_partial.specs.Answer.{Answer}
-use Rattle.druid_partial_text.specs.Answers.{TellsAnswer, WereAsked, answer_data, answer_text}
+use Rattle.druid_partial_text.specs.Answers.{ReportsAnswer, WereAsked, answer_data, answer_text}
 use Rattle.druid_partial_text.specs.Missed.{IsOfSegment}
 use Rattle.druid_partial_text.proofs.ReadBackLemmas.{answer_back, one_reading}
 use Rattle.druid_http_wire.specs.Messages.{IsResponse}
@@ -90,8 +90,8 @@ status_fits held bytes status body (inr t) = let is = t.3.status_is in (omega (a
 -- what an answer tells is what was written of it
 reported_is : (sub : SubQuery) (held : List Segment) (a : Answer) (json : Data) (missed : List Asked) (groups : List Group)
     → IsQuery sub.query → IsAsked sub.query.source sub.asked → All HaveWords held → IsAnswerOf held sub a
-    → read (answer_text a) ≡ Some json → TellsAnswer sub json missed groups → (a.missing ≡ missed) × (a.partial.groups ≡ groups)
-reported_is sub held a json missed groups is asked words answer reads tells =
+    → read (answer_text a) ≡ Some json → ReportsAnswer sub json missed groups → (a.missing ≡ missed) × (a.partial.groups ≡ groups)
+reported_is sub held a json missed groups is asked words answer reads reports =
     let was_asked : WereAsked sub a.missing = λ x there.
     (from_filter (is_missing held) sub.asked x (subst (λ (xs : List Asked). Contains xs x) answer.missed there)).0 in
     let kept = groups_held sub.query held sub.asked a.partial.groups is (λ x there. (asked.valid x there).1) words answer.result in
@@ -99,10 +99,10 @@ reported_is sub held a json missed groups is asked words answer reads tells =
     let same : answer_data a.missing a.partial.groups ≡ json = same_Some _ _ (sym (answer_text_read a.missing a.partial.groups of_segments kept) ∙ reads) in
     let back = answer_back sub a.missing a.partial.groups was_asked
     (λ x there. let v = asked.valid x (was_asked x there) in (asked.sources x (was_asked x there), v.0, v.1)) answer.result.ordered answer.of_query.each kept in
-    let mine = subst (λ (d : Data). TellsAnswer sub d a.missing a.partial.groups) same back in
-    let rows : mine.rows ≡ tells.rows = same_Some _ _ (sym mine.found ∙ tells.found) in (
-      same_Some _ _ (sym mine.missed ∙ tells.missed),
-      one_reading sub.query tells.rows a.partial.groups groups (subst (λ (d : Data). TellsGroups sub.query d a.partial.groups) rows mine.reported) tells.reported,
+    let mine = subst (λ (d : Data). ReportsAnswer sub d a.missing a.partial.groups) same back in
+    let rows : mine.rows ≡ reports.rows = same_Some _ _ (sym mine.found ∙ reports.found) in (
+      same_Some _ _ (sym mine.missed ∙ reports.missed),
+      one_reading sub.query reports.rows a.partial.groups groups (subst (λ (d : Data). ReportsGroups sub.query d a.partial.groups) rows mine.reported) reports.reported,
     )
 
 -- ---- the pieces that were given

@@ -26,7 +26,7 @@ use Rattle.druid_query.proofs.AskedLemmas.{all_of_each}
 use Rattle.druid_query_text.proofs.QueryBackLemmas.{query_sound}
 use Rattle.druid_partial.specs.Groups.{Key, Group, AreWords, key_cmp, known, column, number_at, IsReported, IsAggregate, IsGroupOf, IsResult}
 use Rattle.druid_partial.specs.Partials.{earliest, kinds_of}
-use Rattle.druid_partial_scan.specs.Rows.{number_in, taken, tells, passes_if, is_asked}
+use Rattle.druid_partial_scan.specs.Rows.{number_in, taken, row_group, passes_if, is_asked}
 use Rattle.druid_partial_scan.specs.Once.{segment_named, counted_in, counted_of, counted_groups}
 use Rattle.druid_partial.proofs.MergedLemmas.{IsWord}
 use Rattle.druid_partial_scan.proofs.SourceLemmas.{number_word, one_word}
@@ -69,7 +69,7 @@ asked_instant query piece fields row valid asked =
     omega (arith, before, valid.1)
 
 row_held : (query : Query) (piece : Extent) (s : Segment) (row : Row) → IsQuery query → IsExtent piece → HaveWords s → Contains s.rows row → is_asked query piece s.fields row ≡ true
-    → IsHeld (tells query s.fields row)
+    → IsHeld (row_group query s.fields row)
 row_held query piece s row is valid words there asked = record {
   bucket = bucket_instant query.granularity row.time (earliest query.intervals) (asked_instant query piece s.fields row valid asked)
       (earliest_instant query.intervals (query_sound query is).times.each);
@@ -87,7 +87,7 @@ counted_held query held asked is valid words row there =
     of_found : (a : Asked) (o : Option Segment) → segment_named a.0 held ≡ o → IsExtent a.1 → Contains (counted_in query a.1 o) row → IsHeld row
     of_found a None e piece there = absurd (Contains-nil row there)
     of_found a (Some s) e piece there =
-        let counted_row = Contains-map (tells query s.fields) _ row there in
+        let counted_row = Contains-map (row_group query s.fields) _ row there in
         let passed = from_filter (is_asked query a.1 s.fields) s.rows counted_row.0 counted_row.1 in
         subst IsHeld counted_row.2 (row_held query a.1 s counted_row.0 is piece (found_each HaveWords held a.0 s words e) passed.0 passed.1)
 

@@ -6,7 +6,7 @@ use Rattle.druid_node.specs.State.{State}
 use Rattle.druid_inventory_views.specs.Fold.{Published, PublisherValue}
 use Rattle.druid_broker_follow.specs.Turns.{IsFetchedFrom, TakesTurn}
 use Rattle.druid_laws_tests.specs.Exchanges.{ExchangesWithNode}
-use Rattle.druid_laws_tests.specs.Following.{AreFollowed}
+use Rattle.druid_laws_tests.specs.FollowedNodes.{AreFollowed}
 use Rattle.druid_laws_tests.specs.Nodes.{IsNode}
 use Rattle.druid_laws_tests.proofs.TurnLemmas.{IsReadBack, fetched_first}
 

@@ -22,7 +22,7 @@ use Rattle.druid_laws_world.specs.Run.{AreHonest}
 use Rattle.druid_laws_headline.specs.Headline.{AreAmong, IsLastOf, IsPosted, IsExactAt}
 use Rattle.druid_laws_tests.specs.Nodes.{IsNode}
 use Rattle.druid_laws_tests.specs.Exchanges.{ExchangesWithNode}
-use Rattle.druid_laws_tests.specs.Following.{IsFirstReply, AreFollowed}
+use Rattle.druid_laws_tests.specs.FollowedNodes.{IsFirstReply, AreFollowed}
 use Rattle.druid_laws_tests.specs.Answers.{IsExactOver}
 use Rattle.druid_laws_tests.proofs.NodeLemmas.{snapshot_of, snapshot_reported}
 use Rattle.druid_laws_tests.proofs.WholeLemmas.{NodesAreHonest, both_honest, whole}

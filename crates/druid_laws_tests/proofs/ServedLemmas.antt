@@ -13,7 +13,7 @@ use Rattle.druid_inventory_views.specs.Fold.{Published}
 use Rattle.druid_broker.specs.Views.{RespondsBy, AnswersUnread}
 use Rattle.druid_laws_tests.specs.Nodes.{IsNode}
 use Rattle.druid_laws_tests.specs.Exchanges.{ExchangesWithNode}
-use Rattle.druid_laws_tests.specs.Following.{AreFollowed}
+use Rattle.druid_laws_tests.specs.FollowedNodes.{AreFollowed}
 use Rattle.druid_laws_tests.specs.Answers.{IsExactOver, AnswersExactly}
 use Rattle.druid_laws_tests.proofs.LawLemmas.{ExactOverTwo}
 
@@ -40,8 +40,8 @@ not_refused : (bytes : List ℕ) (request : RequestValue) (rest : List ℕ) (sta
 not_refused bytes request rest status body is refused = by (request_faults bytes request rest refused.fault is refused.has)
   where
     by : (refused.fault ≡ Read) ⊎ (refused.fault ≡ Memory) → ⊥
-    by (inl read) = no_text body (sym (ap refusal_text read) ∙ refused.tells)
-    by (inr memory) = no_text body (sym (ap refusal_text memory) ∙ refused.tells)
+    by (inl read) = no_text body (sym (ap refusal_text read) ∙ refused.text_is)
+    by (inr memory) = no_text body (sym (ap refusal_text memory) ∙ refused.text_is)
 
 served : (law : ExactOverTwo) (order : List ℕ → List ℕ) (names : List (List ℕ)) (seen now : Published) (left right : State) (new : List State)
     (bytes written : List ℕ) (after : Option (List ℕ)) (sent : ℕ) (Stays : Type 0)

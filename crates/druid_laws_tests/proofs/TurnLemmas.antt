@@ -21,7 +21,7 @@ use Rattle.druid_broker_follow.specs.declared.fault.TurnFault.{TurnFault}
 use Rattle.druid_laws_tests.specs.Exchanges.{IsAnswered, ExchangesWithNode}
 use Rattle.druid_laws_headline.proofs.AskLemmas.{answer_of_history}
 use Rattle.druid_laws_headline.proofs.HonestLemmas.{same_ok}
-use Rattle.druid_laws_tests.specs.Following.{IsFirstReply}
+use Rattle.druid_laws_tests.specs.FollowedNodes.{IsFirstReply}
 use Rattle.druid_laws_tests.specs.Nodes.{IsNode}
 use Rattle.druid_laws_tests.proofs.NodeLemmas.{snapshot_of, snapshot_reported}
 use Rattle.druid_laws_tests.proofs.RequestLemmas.{ask_read}

@@ -1,5 +1,5 @@
 -- what public contracts rest on
 pub mod Nodes
 pub mod Exchanges
-pub mod Following
+pub mod FollowedNodes
 pub mod Answers

@@ -12,7 +12,7 @@ ghost use Rattle.druid_laws_world.specs.World.{Life, IsHonest, IsLife, eras_of};
 ghost use Rattle.druid_laws_headline.specs.Headline.{HasText, HasWords, IsLastOf, IsPosted};
 ghost use Rattle.druid_laws_tests.specs.Exchanges.{ExchangesWithNode};
 ghost use Rattle.druid_laws_tests.specs.Nodes.{IsNode};
-ghost use Rattle.druid_laws_tests.specs.Following.{AreFollowed};
+ghost use Rattle.druid_laws_tests.specs.FollowedNodes.{AreFollowed};
 ghost use Rattle.druid_laws_tests.specs.Answers.{IsExactOver};
 
 use crate::node_link::NodeLink;

@@ -3,18 +3,18 @@
 //! socket the one premise is that the exchanges of the call were honest.
 #![tactic(auto)]
 
-mod asking;
-mod fetching;
-mod following;
+mod fetch;
+mod followed_nodes;
 mod laws;
 mod node_link;
 mod nodes;
+mod query;
 #[cfg(test)]
 mod sockets;
 #[cfg(test)]
 mod two_nodes;
 
-pub use asking::ask_two;
-pub use fetching::fetch_over_socket;
+pub use fetch::fetch_over_socket;
 pub use laws::{answers_are_exact, fetches_are_honest};
 pub use node_link::NodeLink;
+pub use query::ask_two;

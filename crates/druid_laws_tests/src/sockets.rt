@@ -1,5 +1,5 @@
 //! A node that is fetched from over a socket of this machine.
-use crate::fetching::fetch_over_socket;
+use crate::fetch::fetch_over_socket;
 use crate::two_nodes::{inventory, left};
 use druid_http_wire::{read_request, write_response};
 use druid_inventory::Inventory;

@@ -2,7 +2,7 @@
 ghost use Rattle.std.specs.Prelude.{◌≡◌, ℕ, List, map, length};
 ghost use Rattle.druid_inventory.specs.Entry.{fresh};
 
-use crate::asking::ask_two;
+use crate::query::ask_two;
 use druid_http_wire::response_of;
 use druid_inventory::Inventory;
 use druid_inventory_views::Opened;

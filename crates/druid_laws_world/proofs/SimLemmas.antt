@@ -18,8 +18,8 @@ use Rattle.druid_inventory.specs.Entry.{Entry, IsAnswerOf, IsUnsynced, fresh, an
 use Rattle.druid_inventory.specs.declared.fault.InventoryFault.{InventoryFault}
 use Rattle.druid_inventory.specs.declared.fault.InventoryFault.TheVariants as entry_faults
 use Rattle.druid_laws_world.specs.World.{Life, IsInventoryOf}
-use Rattle.druid_laws_world.specs.Run.{State, Next, IsReached, Tells, asked, ask_refusal, needs, parts_at, seed_ask, takes, recorded, restarted, last_incarnation, with_node, with_packet, refusal, newborn, opening, node_name, node_names}
-use Rattle.druid_laws_world.specs.Node.{AnswersIn, DeliversIn, TellsEntry, ask_at, mark_of, seed_mark}
+use Rattle.druid_laws_world.specs.Run.{State, Next, IsReached, Reports, asked, ask_refusal, needs, parts_at, seed_ask, takes, recorded, restarted, last_incarnation, with_node, with_packet, refusal, newborn, opening, node_name, node_names}
+use Rattle.druid_laws_world.specs.Node.{AnswersIn, DeliversIn, ReportsEntry, ask_at, mark_of, seed_mark}
 use Rattle.druid_laws_world.specs.declared.event.AskKind.{AskKind}
 use Rattle.druid_laws_world.specs.declared.event.AskKind.TheVariants as kinds
 use Rattle.druid_laws_world.specs.declared.event.Event.{Event}
@@ -212,9 +212,9 @@ on_ok (Ok x) P Q f h = f h
 on_ok (Err fault) P Q f h = tt
 
 -- it is reported as out of memory where the event can happen
-pub if_memory : (r : Result ⊤ SimFault) (s : State) (event : Event) → ((t : State) × Next s event t) → IfErr r (λ fault. fault ≡ faults.Memory) → IfErr r (Tells s event)
+pub if_memory : (r : Result ⊤ SimFault) (s : State) (event : Event) → ((t : State) × Next s event t) → IfErr r (λ fault. fault ≡ faults.Memory) → IfErr r (Reports s event)
 if_memory (Ok x) s event can memory = tt
-if_memory (Err fault) s event can memory = subst (Tells s event) (sym memory) can
+if_memory (Err fault) s event can memory = subst (Reports s event) (sym memory) can
 
 -- a state of which two parts change, or none
 pub parts_same : (r : Result ⊤ SimFault) (s : State) (new : List Life) (more : List Packet) → OnErr r (new ≡ s.world) → OnErr r (more ≡ s.packets)
@@ -244,9 +244,9 @@ put_reached v s packet items b is h next items_are =
     put_by v packet items b h (subst (λ (x : State). (event : Event) × Next x event (with_packet x packet)) (sym is) next) items_are
 
 -- out of memory where the event can happen
-pub memory_reported : (r : Result ⊤ SimFault) (s t : State) (event : Event) → Next s event t → IfErr r (λ fault. fault ≡ faults.Memory) → IfErr r (Tells s event)
+pub memory_reported : (r : Result ⊤ SimFault) (s t : State) (event : Event) → Next s event t → IfErr r (λ fault. fault ≡ faults.Memory) → IfErr r (Reports s event)
 memory_reported (Ok x) s t event next memory = tt
-memory_reported (Err fault) s t event next memory = subst (Tells s event) (sym memory) (t, next)
+memory_reported (Err fault) s t event next memory = subst (Reports s event) (sym memory) (t, next)
 
 -- a peer sends what it knows, or a page of it
 pub seed_next : (s : State) (peer broker node page : ℕ) (life : Life) (inventory other : List Entry) (mark : Point) (reply : Body) → Some life ≡ slice_get s.world node
@@ -269,7 +269,7 @@ seed_next s peer broker node page life inventory other mark reply at_node at_pee
 
 pub entry_reported : (s : State) (peer broker node page : ℕ) (life : Life) (inventory other : List Entry) (mark : Point) (fault : SimFault) → Some life ≡ slice_get s.world node
     → Some inventory ≡ slice_get s.brokers peer → Some other ≡ slice_get s.brokers broker → Some mark ≡ option_map (λ (e : Entry). e.mark) (slice_get inventory node)
-    → TellsEntry inventory node (seed_mark mark page) fault → Tells s (Seed peer broker node page) fault
+    → ReportsEntry inventory node (seed_mark mark page) fault → Reports s (Seed peer broker node page) fault
 unfolding refusal
 entry_reported s peer broker node page life inventory other mark faults.NoSuchNode at_node at_peer at_broker at reported = absurd reported
 entry_reported s peer broker node page life inventory other mark faults.NoSuchBroker at_node at_peer at_broker at reported = absurd reported
@@ -285,7 +285,7 @@ entry_failed f = Err f
 
 -- an entry that is not refused was synced
 pub entry_memory : (inventory : List Entry) (node : ℕ) (ask : Ask) (f : InventoryFault) → node < length inventory → f ≡ entry_faults.Memory
-    → (IsErrOf (entry_failed f) entry_faults.NotSynced ↔ IsUnsynced inventory node) → TellsEntry inventory node ask faults.Memory
+    → (IsErrOf (entry_failed f) entry_faults.NotSynced ↔ IsUnsynced inventory node) → ReportsEntry inventory node ask faults.Memory
 entry_memory inventory node ask f l memory reported =
     let found = get_below inventory node l in
     (answer_of found.0 ask, (found.0, found.1, other found.0 found.1, refl)) where
@@ -357,7 +357,7 @@ restarted_next s node at there l = (at, sym there, lt-ltb at.last.incarnation la
 
 -- ---- the refusals
 
-named : (s : State) (event : Event) (f : SimFault) → (f ≡ faults.Memory → ⊥) → Tells s event f → refusal s event ≡ Some f
+named : (s : State) (event : Event) (f : SimFault) → (f ≡ faults.Memory → ⊥) → Reports s event f → refusal s event ≡ Some f
 named s event faults.NoSuchNode other reported = reported
 named s event faults.NoSuchBroker other reported = reported
 named s event faults.NoSuchPacket other reported = reported
@@ -365,7 +365,7 @@ named s event faults.Refused other reported = reported
 named s event faults.NoAssembly other reported = reported
 named s event faults.Memory other reported = absurd (other refl)
 
-one_fault : (s : State) (event : Event) (f g : SimFault) → refusal s event ≡ Some f → Tells s event g → g ≡ f
+one_fault : (s : State) (event : Event) (f g : SimFault) → refusal s event ≡ Some f → Reports s event g → g ≡ f
 one_fault s event f faults.NoSuchNode e reported = same_Some faults.NoSuchNode f (sym reported ∙ e)
 one_fault s event f faults.NoSuchBroker e reported = same_Some faults.NoSuchBroker f (sym reported ∙ e)
 one_fault s event f faults.NoSuchPacket e reported = same_Some faults.NoSuchPacket f (sym reported ∙ e)
@@ -373,15 +373,15 @@ one_fault s event f faults.Refused e reported = same_Some faults.Refused f (sym 
 one_fault s event f faults.NoAssembly e reported = same_Some faults.NoAssembly f (sym reported ∙ e)
 one_fault s event f faults.Memory e reported = absurd (none-some f (sym (not_refused s reported.0 event reported.1) ∙ e))
 
-refused_by : (r : Result ⊤ SimFault) (s t : State) (event : Event) (f : SimFault) → OnOk r (Next s event t) → IfErr r (Tells s event)
+refused_by : (r : Result ⊤ SimFault) (s t : State) (event : Event) (f : SimFault) → OnOk r (Next s event t) → IfErr r (Reports s event)
     → refusal s event ≡ Some f → IsErrOf r f
 refused_by (Ok x) s t event f ok reported e = absurd (none-some f (sym (not_refused s t event ok) ∙ e))
 refused_by (Err g) s t event f ok reported e = ap (λ x. Err x) (one_fault s event f g e reported)
 
-pub exactly : (r : Result ⊤ SimFault) (s t : State) (event : Event) (f : SimFault) → (f ≡ faults.Memory → ⊥) → OnOk r (Next s event t) → IfErr r (Tells s event)
+pub exactly : (r : Result ⊤ SimFault) (s t : State) (event : Event) (f : SimFault) → (f ≡ faults.Memory → ⊥) → OnOk r (Next s event t) → IfErr r (Reports s event)
     → IsErrOf r f ↔ (refusal s event ≡ Some f)
 exactly r s t event f other ok reported =
-    (λ is. named s event f other (subst (λ (x : Result ⊤ SimFault). IfErr x (Tells s event)) is reported), refused_by r s t event f ok reported)
+    (λ is. named s event f other (subst (λ (x : Result ⊤ SimFault). IfErr x (Reports s event)) is reported), refused_by r s t event f ok reported)
 
 -- ---- the opening
 

@@ -33,10 +33,10 @@ Answers old ask reply new =
     × (new ≡ with_frozen old frozen)
 
 -- why an entry is not sent; out of memory only where it was synced
-abbrev pub TellsEntry : List Entry → ℕ → Ask → SimFault → Type 0
-TellsEntry inventory node ask faults.Refused = IsUnsynced inventory node
-TellsEntry inventory node ask faults.Memory = (reply : Body) × IsAnswerOf inventory node ask reply
-TellsEntry inventory node ask fault = ⊥
+abbrev pub ReportsEntry : List Entry → ℕ → Ask → SimFault → Type 0
+ReportsEntry inventory node ask faults.Refused = IsUnsynced inventory node
+ReportsEntry inventory node ask faults.Memory = (reply : Body) × IsAnswerOf inventory node ask reply
+ReportsEntry inventory node ask fault = ⊥
 
 -- a state of these
 abbrev pub state : List Life → List Packet → List (List Entry) → List (List (Option Parts)) → State

@@ -219,9 +219,9 @@ refusal s (events.Fail broker node) =
     needs faults.NoSuchNode (slice_get s.world node) (λ life. needs faults.NoSuchBroker (slice_get s.brokers broker) (λ inventory. None))
 
 -- the fault that tells why an event did not happen; out of memory only where it can happen
-abbrev pub Tells : State → Event → SimFault → Type 0
-Tells s event faults.Memory = (new : State) × Next s event new
-Tells s event fault = refusal s event ≡ Some fault
+abbrev pub Reports : State → Event → SimFault → Type 0
+Reports s event faults.Memory = (new : State) × Next s event new
+Reports s event fault = refusal s event ≡ Some fault
 
 -- ---- runs
 

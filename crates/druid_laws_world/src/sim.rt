@@ -4,8 +4,8 @@ ghost use Rattle.druid_segment_descriptor.specs.Reply.{max_changes};
 ghost use Rattle.druid_sync_pages.specs.Assembly.{Parts};
 ghost use Rattle.druid_inventory.specs.Entry.{Entry, IsAnswerOf, max_nodes, fresh};
 ghost use Rattle.druid_laws_world.specs.World.{IsInventoryOf};
-ghost use Rattle.druid_laws_world.specs.Node.{AnswersIn, DeliversIn, TellsEntry, ask_at, seed_mark, mark_of};
-ghost use Rattle.druid_laws_world.specs.Run.{State, IsReached, Next, Tells, refusal, parts_at, with_packet, opening, newborn, node_name, node_names};
+ghost use Rattle.druid_laws_world.specs.Node.{AnswersIn, DeliversIn, ReportsEntry, ask_at, seed_mark, mark_of};
+ghost use Rattle.druid_laws_world.specs.Run.{State, IsReached, Next, Reports, refusal, parts_at, with_packet, opening, newborn, node_name, node_names};
 ghost use Rattle.druid_laws_world.specs.declared.event.Event.{Event as Happening};
 ghost use Rattle.druid_laws_world.specs.declared.event.Event.TheVariants as events;
 
@@ -132,7 +132,7 @@ fn no_arrivals(alloc: Global, nodes: usize, brokers: usize) -> Result<Vec<Arriva
 fn entry_of(inventory: &Inventory, node: NodeNo, ask: &Ask) -> Result<Reply, SimFault>
     requires { node < length inventory.now }
     ensures ok { IfOk result (IsAnswerOf inventory.now node ask.now) }
-    ensures reported { IfErr result (TellsEntry inventory.now node ask.now) }
+    ensures reported { IfErr result (ReportsEntry inventory.now node ask.now) }
 {
     match inventory.entry_page(node, ask) {
         Ok(reply) => Ok(reply),
@@ -270,7 +270,7 @@ impl Sim {
     // Makes the event happen.
     fn happen(&mut self, event: Event) -> Result<(), SimFault>
         ensures ok { OnOk result (Next self.old event self.new) }
-        ensures reported { IfErr result (Tells self.old event) }
+        ensures reported { IfErr result (Reports self.old event) }
         ensures unchanged { OnErr result (self.new ≡ self.old) }
     {
         match event {
@@ -329,7 +329,7 @@ impl Sim {
     #[tactic(auto, unfolding(crate::specs::Run::refusal))]
     fn record(&mut self, node: NodeNo, change: Change) -> Result<(), SimFault>
         ensures ok { OnOk result (Next self.old (events.Record node change) self.new) }
-        ensures reported { IfErr result (Tells self.old (events.Record node change)) }
+        ensures reported { IfErr result (Reports self.old (events.Record node change)) }
         ensures unchanged { OnErr result (self.new ≡ self.old) }
     {
         let Some(at) = self.node(node) else {
@@ -345,7 +345,7 @@ impl Sim {
     #[tactic(auto, unfolding(crate::specs::Run::refusal))]
     fn restart(&mut self, node: NodeNo) -> Result<(), SimFault>
         ensures ok { OnOk result (Next self.old (events.Restart node) self.new) }
-        ensures reported { IfErr result (Tells self.old (events.Restart node)) }
+        ensures reported { IfErr result (Reports self.old (events.Restart node)) }
         ensures unchanged { OnErr result (self.new ≡ self.old) }
     {
         let Some(at) = self.node(node) else {
@@ -373,7 +373,7 @@ impl Sim {
     // Puts what a broker asks a node.
     fn ask(&mut self, broker: usize, node: NodeNo, kind: AskKind) -> Result<(), SimFault>
         ensures ok { OnOk result (Next self.old (events.Ask broker node kind) self.new) }
-        ensures reported { IfErr result (Tells self.old (events.Ask broker node kind)) }
+        ensures reported { IfErr result (Reports self.old (events.Ask broker node kind)) }
         ensures unchanged { OnErr result (self.new ≡ self.old) }
     {
         match self.request(broker, node, kind) {
@@ -386,7 +386,7 @@ impl Sim {
     #[tactic(auto, unfolding(crate::specs::Run::refusal))]
     fn request(&self, broker: usize, node: NodeNo, kind: AskKind) -> Result<Packet, SimFault>
         ensures ok { IfOk result (λ packet. Next self.now (events.Ask broker node kind) (with_packet self.now packet)) }
-        ensures reported { IfErr result (Tells self.now (events.Ask broker node kind)) }
+        ensures reported { IfErr result (Reports self.now (events.Ask broker node kind)) }
     {
         let Some(_) = self.node(node) else {
             return Err(SimFault::NoSuchNode);
@@ -407,7 +407,7 @@ impl Sim {
     #[tactic(auto, unfolding(crate::specs::Run::refusal))]
     fn answer(&mut self, packet: usize) -> Result<(), SimFault>
         ensures ok { OnOk result (Next self.old (events.Answer packet) self.new) }
-        ensures reported { IfErr result (Tells self.old (events.Answer packet)) }
+        ensures reported { IfErr result (Reports self.old (events.Answer packet)) }
         ensures unchanged { OnErr result (self.new ≡ self.old) }
     {
         let Some(Packet::Request { broker, node, ask }) = packet_at(&self.packets, packet) else {
@@ -422,7 +422,7 @@ impl Sim {
     // Puts what a broker has of a node as a reply for another broker.
     fn seed(&mut self, peer: usize, broker: usize, node: NodeNo, page: u16) -> Result<(), SimFault>
         ensures ok { OnOk result (Next self.old (events.Seed peer broker node page) self.new) }
-        ensures reported { IfErr result (Tells self.old (events.Seed peer broker node page)) }
+        ensures reported { IfErr result (Reports self.old (events.Seed peer broker node page)) }
         ensures unchanged { OnErr result (self.new ≡ self.old) }
     {
         match self.entry(peer, broker, node, page) {
@@ -435,7 +435,7 @@ impl Sim {
     #[tactic(auto, unfolding(crate::specs::Run::refusal))]
     fn entry(&self, peer: usize, broker: usize, node: NodeNo, page: u16) -> Result<Packet, SimFault>
         ensures ok { IfOk result (λ packet. Next self.now (events.Seed peer broker node page) (with_packet self.now packet)) }
-        ensures reported { IfErr result (Tells self.now (events.Seed peer broker node page)) }
+        ensures reported { IfErr result (Reports self.now (events.Seed peer broker node page)) }
     {
         let Some(_) = self.node(node) else {
             return Err(SimFault::NoSuchNode);
@@ -463,7 +463,7 @@ impl Sim {
     #[tactic(auto, unfolding(crate::specs::Run::refusal))]
     fn deliver(&mut self, packet: usize) -> Result<(), SimFault>
         ensures ok { OnOk result (Next self.old (events.Deliver packet) self.new) }
-        ensures reported { IfErr result (Tells self.old (events.Deliver packet)) }
+        ensures reported { IfErr result (Reports self.old (events.Deliver packet)) }
         ensures unchanged { OnErr result (self.new ≡ self.old) }
     {
         let Some(
@@ -489,7 +489,7 @@ impl Sim {
     #[tactic(auto, unfolding(crate::specs::Run::refusal))]
     fn cut(&self, packet: usize) -> Result<(), SimFault>
         ensures ok { OnOk result (Next self.now (events.Cut packet) self.now) }
-        ensures reported { IfErr result (Tells self.now (events.Cut packet)) }
+        ensures reported { IfErr result (Reports self.now (events.Cut packet)) }
     {
         let Some(_) = self.packet(packet) else {
             return Err(SimFault::NoSuchPacket);
@@ -501,7 +501,7 @@ impl Sim {
     #[tactic(auto, unfolding(crate::specs::Run::refusal))]
     fn fail(&self, broker: usize, node: NodeNo) -> Result<(), SimFault>
         ensures ok { OnOk result (Next self.now (events.Fail broker node) self.now) }
-        ensures reported { IfErr result (Tells self.now (events.Fail broker node)) }
+        ensures reported { IfErr result (Reports self.now (events.Fail broker node)) }
     {
         let Some(_) = self.node(node) else {
             return Err(SimFault::NoSuchNode);

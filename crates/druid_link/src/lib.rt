@@ -5,9 +5,9 @@ mod link;
 mod log;
 mod memory_link;
 mod tcp_link;
-mod timed;
+mod timer;
 
 pub use link::{Link, MAX_EXCHANGE};
 pub use memory_link::MemoryLink;
 pub use tcp_link::{EXCHANGE_SECONDS, TcpLink};
-pub use timed::{Timer, receive_some, send_all};
+pub use timer::{Timer, receive_some, send_all};

@@ -11,36 +11,36 @@ use std::marker::Model;
 // The exchanges that were made over a link, the newest first. Only proofs read it: it takes no room, and its methods do nothing
 // at run time. That a note tells what was sent and what came is the author's word, which tests check over a double of the network.
 #[derive(Drop)]
-pub(crate) struct Log {
+pub(crate) struct ExchangeLog {
     pub ghost made: { List Exchanged },
 }
 
-impl Model for Log {
+impl Model for ExchangeLog {
     ghost also_owns = { λ _. ftrue };
 }
 
 // It owns nothing.
-unsafe impl Send for Log {}
+unsafe impl Send for ExchangeLog {}
 
 // An exchange: the request, and what came.
 #[derive(Clone, Copy, Drop)]
-pub(crate) struct Note<'a> {
+pub(crate) struct ExchangeNote<'a> {
     pub request: &'a [u8],
     pub came: &'a Result<Vec<u8>, WireFault>,
 }
 
-impl Log {
+impl ExchangeLog {
     ghost use Rattle.druid_link.specs.Noted.{exchange_of};
 
-    pub(crate) fn new() -> Log
+    pub(crate) fn new() -> ExchangeLog
         ensures { result.made ≡ [] }
     {
-        Log {}
+        ExchangeLog {}
     }
 
-    pub(crate) fn then(&self, _note: &Note<'_>) -> Log
+    pub(crate) fn then(&self, _note: &ExchangeNote<'_>) -> ExchangeLog
         ensures { result.made ≡ exchange_of _note.now ∷ self.now.made }
     {
-        Log {}
+        ExchangeLog {}
     }
 }

@@ -9,8 +9,8 @@ ghost use Rattle.druid_link.specs.Limits.{max_exchange};
 ghost use Rattle.druid_link.specs.Links.{IsLinkFault, faults_at};
 ghost use Rattle.druid_link.specs.TcpLinks.{IsExchanged, fresh_tcp_link, limited};
 
-use crate::log::{Log, Note};
-use crate::timed::{Timer, receive_some, send_all};
+use crate::log::{ExchangeLog, ExchangeNote};
+use crate::timer::{Timer, receive_some, send_all};
 use crate::{Link, MAX_EXCHANGE};
 use druid_http_message::WireFault;
 use std::alloc::Global;
@@ -46,7 +46,7 @@ pub struct TcpLink<N: Net + Clock> {
     deadline: Option<Instant>,
     // How many exchanges failed.
     failed: u64,
-    log: Log,
+    log: ExchangeLog,
 }
 
 impl<N: Net + Clock> Model for TcpLink<N> {
@@ -69,7 +69,7 @@ impl<N: Net + Clock> TcpLink<N> {
             limit: Duration::from_secs(EXCHANGE_SECONDS),
             deadline: None,
             failed: 0,
-            log: Log::new(),
+            log: ExchangeLog::new(),
         }
     }
 
@@ -96,7 +96,7 @@ impl<N: Net + Clock> Link for TcpLink<N> {
             deadline: self.deadline,
         };
         let came = ask(alloc, &self.net, self.address.as_str(), time, request);
-        self.log = self.log.then(&Note {
+        self.log = self.log.then(&ExchangeNote {
             request,
             came: &came,
         });

@@ -11,7 +11,7 @@ use Rattle.druid_partial.specs.Partials.{kinds_of}
 use Rattle.druid_node.specs.Answers.{missing}
 use Rattle.druid_partial_scan.specs.Once.{segment_named, counted_in, counted_of, counted_groups}
 use Rattle.druid_partial_scan.specs.Rows.{counted_by}
-use Rattle.druid_partial_scan.specs.Told.{Slice, told_by}
+use Rattle.druid_partial_scan.specs.SliceGroups.{Slice, slice_groups}
 use Rattle.druid_node.specs.Placed.{Placed, counted_at}
 use Rattle.std.specs.List.{flat_map}
 
@@ -67,31 +67,31 @@ one_place query held place s (p ∷ pieces) here one =
 
 -- one slice more
 pub slices_next : (held : List Segment) (slices more : List Slice) (s : Slice) (front back rest pieces : List Placed) (n : ℕ) → front ≡ take n rest → back ≡ drop n rest
-    → ((query : Query) → told_by query s ≡ flat_map (counted_at query held) front) → more ≡ slices ++ s ∷ []
-    → ((query : Query) → flat_map (told_by query) slices ++ flat_map (counted_at query held) rest ≡ flat_map (counted_at query held) pieces)
-    → (query : Query) → flat_map (told_by query) more ++ flat_map (counted_at query held) back ≡ flat_map (counted_at query held) pieces
-slices_next held slices more s front back rest pieces n f b tells m before query =
-    let told = flat_map (told_by query) slices in
+    → ((query : Query) → slice_groups query s ≡ flat_map (counted_at query held) front) → more ≡ slices ++ s ∷ []
+    → ((query : Query) → flat_map (slice_groups query) slices ++ flat_map (counted_at query held) rest ≡ flat_map (counted_at query held) pieces)
+    → (query : Query) → flat_map (slice_groups query) more ++ flat_map (counted_at query held) back ≡ flat_map (counted_at query held) pieces
+slices_next held slices more s front back rest pieces n f b reports m before query =
+    let reported = flat_map (slice_groups query) slices in
     let tail = flat_map (counted_at query held) back in
-    ap (λ l. l ++ tail) (ap (flat_map (told_by query)) m ∙ flat_map-append (told_by query) slices (s ∷ []) ∙ ap (λ l. told ++ l) (append-nil (told_by query s) ∙ tells query))
-    ∙ append_assoc told (flat_map (counted_at query held) front) tail
-    ∙ ap (λ l. told ++ l) (sym (flat_map-append (counted_at query held) front back) ∙ ap (flat_map (counted_at query held)) ((λ i. f i ++ b i) ∙ take-append-drop n rest))
+    ap (λ l. l ++ tail) (ap (flat_map (slice_groups query)) m ∙ flat_map-append (slice_groups query) slices (s ∷ []) ∙ ap (λ l. reported ++ l) (append-nil (slice_groups query s) ∙ reports query))
+    ∙ append_assoc reported (flat_map (counted_at query held) front) tail
+    ∙ ap (λ l. reported ++ l) (sym (flat_map-append (counted_at query held) front back) ∙ ap (flat_map (counted_at query held)) ((λ i. f i ++ b i) ∙ take-append-drop n rest))
     ∙ before query
 
 -- a result of slices of pieces is one of what was asked for
 pub slices_result : (held : List Segment) (query : Query) (asked : List Asked) (placed read : List Placed) (slices : List Slice) (groups : List Group)
     → ((query : Query) (groups : List Group) → IsResult (kinds_of query) (flat_map (counted_at query held) placed) groups → IsResult (kinds_of query) (counted_groups query held asked) groups)
-    → read ≡ placed → ((query : Query) → flat_map (told_by query) slices ≡ flat_map (counted_at query held) read)
-    → IsResult (kinds_of query) (flat_map (told_by query) slices) groups → IsResult (kinds_of query) (counted_groups query held asked) groups
-slices_result held query asked placed read slices groups counted is told result =
-    counted query groups (subst (λ (rows : List Group). IsResult (kinds_of query) rows groups) (told query ∙ ap (flat_map (counted_at query held)) is) result)
+    → read ≡ placed → ((query : Query) → flat_map (slice_groups query) slices ≡ flat_map (counted_at query held) read)
+    → IsResult (kinds_of query) (flat_map (slice_groups query) slices) groups → IsResult (kinds_of query) (counted_groups query held asked) groups
+slices_result held query asked placed read slices groups counted is reported result =
+    counted query groups (subst (λ (rows : List Group). IsResult (kinds_of query) rows groups) (reported query ∙ ap (flat_map (counted_at query held)) is) result)
 
 -- the result of slices that a list of them is read as
 pub read_result : (held : List Segment) (query : Query) (asked : List Asked) (slices read : List Slice) (groups : List Group)
-    → ((query : Query) (groups : List Group) → IsResult (kinds_of query) (flat_map (told_by query) slices) groups → IsResult (kinds_of query) (counted_groups query held asked) groups)
-    → read ≡ slices → IsResult (kinds_of query) (flat_map (told_by query) read) groups → IsResult (kinds_of query) (counted_groups query held asked) groups
+    → ((query : Query) (groups : List Group) → IsResult (kinds_of query) (flat_map (slice_groups query) slices) groups → IsResult (kinds_of query) (counted_groups query held asked) groups)
+    → read ≡ slices → IsResult (kinds_of query) (flat_map (slice_groups query) read) groups → IsResult (kinds_of query) (counted_groups query held asked) groups
 read_result held query asked slices read groups counted is result =
-    counted query groups (subst (λ (all : List Slice). IsResult (kinds_of query) (flat_map (told_by query) all) groups) is result)
+    counted query groups (subst (λ (all : List Slice). IsResult (kinds_of query) (flat_map (slice_groups query) all) groups) is result)
 
 -- ---- missing pieces
 

@@ -2,7 +2,7 @@
 use Rattle.std.proofs.Common.{◌≡◌, ℕ, Bool, true, false, cond, List, Option, Some, None, Result, Ok, Err, IsOk, IfOk, IfErr, Vec, Global, refl, sym, ap, ◌∙◌, subst, inl, inr, bytes_eq}
 use Rattle.std.proofs.lemmas.Slice.Eq.{bytes_eq-Decides}
 use Rattle.druid_segment_rows.specs.Segment.{Segment}
-use Rattle.druid_segment_file.specs.Reading.{GivesInMemory, segment_at}
+use Rattle.druid_segment_file.specs.Reader.{GivesInMemory, segment_at}
 use Rattle.druid_segment_file.specs.declared.fault.FileFault.{FileFault}
 use Rattle.druid_segment_file.specs.declared.fault.FileFault.TheVariants as file
 use Rattle.druid_segment_file.proofs.FrontLemmas.{within_own}
@@ -46,7 +46,7 @@ bytes_refuse incarnation name bytes given seen faults.NameDiffers is h = ap (fil
 bytes_refuse incarnation name bytes given seen (faults.History fault) is h = absurd h
 bytes_refuse incarnation name bytes given seen (faults.Wire fault) is h = absurd h
 bytes_refuse incarnation name bytes given seen faults.NoFile is h = absurd h
-bytes_refuse incarnation name bytes given seen (faults.Behind found) is h = absurd h
+bytes_refuse incarnation name bytes given seen (faults.Stale found) is h = absurd h
 bytes_refuse incarnation name bytes given seen faults.NotPartitionZero is h = absurd h
 bytes_refuse incarnation name bytes given seen faults.Memory is h = tt
 
@@ -65,7 +65,7 @@ bytes_own name bytes faults.NameDiffers h = tt
 bytes_own name bytes (faults.History fault) h = absurd h
 bytes_own name bytes (faults.Wire fault) h = absurd h
 bytes_own name bytes faults.NoFile h = absurd h
-bytes_own name bytes (faults.Behind found) h = absurd h
+bytes_own name bytes (faults.Stale found) h = absurd h
 bytes_own name bytes faults.NotPartitionZero h = absurd h
 bytes_own name bytes faults.Memory h = tt
 
@@ -85,7 +85,7 @@ load_refuses incarnation given seen s faults.NameDiffers is h = absurd h
 load_refuses incarnation given seen s (faults.History fault) is h = (s, is, h)
 load_refuses incarnation given seen s (faults.Wire fault) is h = absurd h
 load_refuses incarnation given seen s faults.NoFile is h = absurd h
-load_refuses incarnation given seen s (faults.Behind found) is h = (s, is, h)
+load_refuses incarnation given seen s (faults.Stale found) is h = (s, is, h)
 load_refuses incarnation given seen s faults.NotPartitionZero is h = absurd h
 load_refuses incarnation given seen s faults.Memory is h = tt
 
@@ -96,7 +96,7 @@ load_own incarnation seen faults.NameDiffers h = absurd h
 load_own incarnation seen (faults.History fault) h = tt
 load_own incarnation seen (faults.Wire fault) h = absurd h
 load_own incarnation seen faults.NoFile h = absurd h
-load_own incarnation seen (faults.Behind found) h = tt
+load_own incarnation seen (faults.Stale found) h = tt
 load_own incarnation seen faults.NotPartitionZero h = absurd h
 load_own incarnation seen faults.Memory h = tt
 
@@ -124,7 +124,7 @@ bytes_uncounted name bytes faults.NameDiffers n h = refl
 bytes_uncounted name bytes (faults.History fault) n h = refl
 bytes_uncounted name bytes (faults.Wire fault) n h = refl
 bytes_uncounted name bytes faults.NoFile n h = refl
-bytes_uncounted name bytes (faults.Behind found) n h = refl
+bytes_uncounted name bytes (faults.Stale found) n h = refl
 bytes_uncounted name bytes faults.NotPartitionZero n h = refl
 bytes_uncounted name bytes faults.Memory n h = refl
 
@@ -140,7 +140,7 @@ load_uncounted incarnation seen (Err faults.NameDiffers) n h = refl
 load_uncounted incarnation seen (Err (faults.History fault)) n h = refl
 load_uncounted incarnation seen (Err (faults.Wire fault)) n h = refl
 load_uncounted incarnation seen (Err faults.NoFile) n h = refl
-load_uncounted incarnation seen (Err (faults.Behind found)) n h = refl
+load_uncounted incarnation seen (Err (faults.Stale found)) n h = refl
 load_uncounted incarnation seen (Err faults.NotPartitionZero) n h = refl
 load_uncounted incarnation seen (Err faults.Memory) n h = refl
 

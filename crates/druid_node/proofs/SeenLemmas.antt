@@ -102,7 +102,7 @@ load_reported kept d incarnation seen faults.NameDiffers h = absurd h
 load_reported kept d incarnation seen (faults.History fault) h = load_refusal kept d fault h
 load_reported kept d incarnation seen (faults.Wire fault) h = absurd h
 load_reported kept d incarnation seen faults.NoFile h = absurd h
-load_reported kept d incarnation seen (faults.Behind found) h = absurd h
+load_reported kept d incarnation seen (faults.Stale found) h = absurd h
 load_reported kept d incarnation seen faults.NotPartitionZero h = absurd h
 load_reported kept d incarnation seen faults.Memory h = tt
 
@@ -131,7 +131,7 @@ drop_found kept d incarnation seen faults.NameDiffers h = absurd h
 drop_found kept d incarnation seen (faults.History fault) h = drop_refusal kept d fault h
 drop_found kept d incarnation seen (faults.Wire fault) h = absurd h
 drop_found kept d incarnation seen faults.NoFile h = absurd h
-drop_found kept d incarnation seen (faults.Behind found) h = absurd h
+drop_found kept d incarnation seen (faults.Stale found) h = absurd h
 drop_found kept d incarnation seen faults.NotPartitionZero h = absurd h
 drop_found kept d incarnation seen faults.Memory h = tt
 
@@ -150,7 +150,7 @@ cover_reported kept id incarnation seen faults.NameDiffers h = absurd h
 cover_reported kept id incarnation seen (faults.History fault) h = (h.0, load_refusal kept (tombstone_of id) fault h.1)
 cover_reported kept id incarnation seen (faults.Wire fault) h = absurd h
 cover_reported kept id incarnation seen faults.NoFile h = absurd h
-cover_reported kept id incarnation seen (faults.Behind found) h = absurd h
+cover_reported kept id incarnation seen (faults.Stale found) h = absurd h
 cover_reported kept id incarnation seen faults.NotPartitionZero h = h
 cover_reported kept id incarnation seen faults.Memory h = h.0
 
@@ -175,7 +175,7 @@ refused_as_seen incarnation seen before after old new fault sent has =
 
 abbrev pub ServeReported : ℕ → Point → RequestValue → Option (List ℕ) → Option (List ℕ) → NodeFault → Type 0
 ServeReported incarnation seen request old new given =
-    ((found : Point) × IsStale incarnation found seen × (given ≡ faults.Behind found) × (new ≡ old))
+    ((found : Point) × IsStale incarnation found seen × (given ≡ faults.Stale found) × (new ≡ old))
     ⊎ ((reported : WireFault) × (given ≡ faults.Wire reported) × (status : ℕ) × (body : List ℕ) × AnswersSince incarnation seen request status body × IsCutShort old new status body reported)
 
 read_some : (before after : Option (List ℕ)) (request : RequestValue) → WasRead before after request

@@ -4,7 +4,7 @@ use Rattle.std.specs.declared.alloc.Global.{Global}
 use Rattle.druid_segment_id.specs.Identifier.{Identifier, identifier_text}
 use Rattle.druid_segment_rows.specs.Segment.{Segment}
 use Rattle.druid_segment_descriptor.specs.Mark.{Point}
-use Rattle.druid_segment_file.specs.Reading.{segment_at}
+use Rattle.druid_segment_file.specs.Reader.{segment_at}
 use Rattle.druid_segment_file.specs.declared.fault.FileFault.{FileFault}
 use Rattle.druid_segment_file.specs.declared.fault.FileFault.TheVariants as file
 use Rattle.druid_folder.specs.Folder.{bytes_read, faults_at}
@@ -48,7 +48,7 @@ RefusesFile incarnation given seen faults.NameDiffers = given ≡ Err faults.Nam
 RefusesFile incarnation given seen (faults.History fault) = (s : Segment) × (given ≡ Ok s) × IsLoadRefusal fault
 RefusesFile incarnation given seen (faults.Wire fault) = ⊥
 RefusesFile incarnation given seen faults.NoFile = given ≡ Err faults.NoFile
-RefusesFile incarnation given seen (faults.Behind found) = (s : Segment) × (given ≡ Ok s) × IsStale incarnation found seen
+RefusesFile incarnation given seen (faults.Stale found) = (s : Segment) × (given ≡ Ok s) × IsStale incarnation found seen
 RefusesFile incarnation given seen faults.NotPartitionZero = ⊥
 RefusesFile incarnation given seen faults.Memory = ⊤
 
@@ -81,7 +81,7 @@ RefusesBytes name bytes faults.NameDiffers = named name (segment_at bytes) ≡ E
 RefusesBytes name bytes (faults.History fault) = ⊥
 RefusesBytes name bytes (faults.Wire fault) = ⊥
 RefusesBytes name bytes faults.NoFile = ⊥
-RefusesBytes name bytes (faults.Behind found) = ⊥
+RefusesBytes name bytes (faults.Stale found) = ⊥
 RefusesBytes name bytes faults.NotPartitionZero = ⊥
 RefusesBytes name bytes faults.Memory = IsOk (segment_at bytes)
 

@@ -4,7 +4,7 @@ use Rattle.std.specs.Arc.{arc_value}
 use Rattle.druid_segment_descriptor.specs.Mark.{Point}
 use Rattle.druid_sync_text.specs.Back.{IsReadBack}
 use Rattle.druid_sync_text.specs.Written.{reply_text}
-use Rattle.druid_http_wire.specs.Served.{Tells, IsOutOfMemory}
+use Rattle.druid_http_wire.specs.Served.{Reports, IsOutOfMemory}
 use Rattle.druid_node.specs.State.{State}
 use Rattle.druid_node.specs.Routes.{AnswersFound, AnswersSub}
 use Rattle.druid_node.specs.Seen.{AreAtMark}
@@ -15,7 +15,7 @@ use Rattle.druid_node.specs.declared.basis.Basis.TheVariants as rests
 
 -- what a state answers to a question, and what state there is then
 abbrev pub Gives : State → State → Question → ℕ → List ℕ → Type 0
-Gives old new (asks.Settled response) status body = (new ≡ old) × Tells response.status response.body status body
+Gives old new (asks.Settled response) status body = (new ≡ old) × Reports response.status response.body status body
 Gives old new (asks.Reply ask) status body = AnswersFound old new (Some ask) status body
 Gives old new (asks.Answer sub) status body = (new ≡ old) × AnswersSub old.held sub status body
 
@@ -25,8 +25,8 @@ Asks question Answers = (old new : State) (status : ℕ) (body : List ℕ) → G
 
 -- the answer that is made of this
 abbrev pub IsMadeOf : Basis → ℕ → List ℕ → Type 0
-IsMadeOf (rests.Settled response) status body = Tells response.status response.body status body
-IsMadeOf (rests.Reply reply) status body = IsReadBack reply × Tells 200 (reply_text reply) status body
+IsMadeOf (rests.Settled response) status body = Reports response.status response.body status body
+IsMadeOf (rests.Reply reply) status body = IsReadBack reply × Reports 200 (reply_text reply) status body
 IsMadeOf (rests.Held held sub) status body = AnswersSub (arc_value held) sub status body
 
 -- what is made of this is what the state answers to the question

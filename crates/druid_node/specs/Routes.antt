@@ -17,7 +17,7 @@ use Rattle.druid_query.specs.Refused.{refusal_text}
 use Rattle.druid_partial.specs.Answer.{Answer}
 use Rattle.druid_partial_text.specs.Answers.{answer_text}
 use Rattle.druid_http_message.specs.Requests.{RequestValue, path_of, parameters_of}
-use Rattle.druid_http_wire.specs.Served.{Tells, Allows, Gets, IsOutOfMemory}
+use Rattle.druid_http_wire.specs.Served.{Reports, Allows, Gets, IsOutOfMemory}
 use Rattle.druid_node.specs.State.{State}
 use Rattle.druid_node.specs.Answers.{IsAnswerOf}
 use Rattle.druid_node.specs.declared.routes.Route.{Route}
@@ -40,9 +40,9 @@ IsReplyTo old new ask reply =
 
 -- with a text that is read back as that
 abbrev pub AnswersFound : State → State → Option Ask → ℕ → List ℕ → Type 0
-AnswersFound old new None status body = (new ≡ old) × Tells 400 (codes "{\"error\":\"Y6\"}") status body
+AnswersFound old new None status body = (new ≡ old) × Reports 400 (codes "{\"error\":\"Y6\"}") status body
 AnswersFound old new (Some ask) status body =
-    (reply : Body) × IsReplyTo old.history new.history ask reply × IsReadBack reply × Tells 200 (reply_text reply) status body
+    (reply : Body) × IsReplyTo old.history new.history ask reply × IsReadBack reply × Reports 200 (reply_text reply) status body
 
 -- the parameters spell an ask
 abbrev pub AnswersAsk : State → State → List ℕ → ℕ → List ℕ → Type 0
@@ -51,30 +51,30 @@ AnswersAsk old new parameters status body = AnswersFound old new (ask_at paramet
 -- an ask, where the method is GET
 abbrev pub AnswersGet : Bool → State → State → List ℕ → ℕ → List ℕ → Type 0
 AnswersGet true old new parameters status body = AnswersAsk old new parameters status body
-AnswersGet false old new parameters status body = (new ≡ old) × Tells 405 (codes "{\"error\":\"Method\"}") status body
+AnswersGet false old new parameters status body = (new ≡ old) × Reports 405 (codes "{\"error\":\"Method\"}") status body
 
 -- ---- queries
 
 abbrev pub AnswersSub : List Segment → SubQuery → ℕ → List ℕ → Type 0
-AnswersSub held sub status body = (a : Answer) × IsAnswerOf held sub a × Tells 200 (answer_text a) status body
+AnswersSub held sub status body = (a : Answer) × IsAnswerOf held sub a × Reports 200 (answer_text a) status body
 
 -- the bytes read as a subquery, or are refused as one
 abbrev pub AnswersQuery : List Segment → List ℕ → ℕ → List ℕ → Type 0
 AnswersQuery held bytes status body =
     ((sub : SubQuery) × IsReadBy subquery_at bytes (Ok sub) × AnswersSub held sub status body)
-    ⊎ ((fault : QueryFault) × (fault ≢ Memory) × IsReadBy subquery_at bytes (Err fault) × Tells 400 (refusal_text fault) status body)
+    ⊎ ((fault : QueryFault) × (fault ≢ Memory) × IsReadBy subquery_at bytes (Err fault) × Reports 400 (refusal_text fault) status body)
 
 -- ---- the whole
 
 -- an answer that is no ask's leaves the state as it was
 abbrev pub AnswersAt : Route → State → State → RequestValue → ℕ → List ℕ → Type 0
 AnswersAt Health old new request status body =
-    (new ≡ old) × Gets request (Tells 200 (codes "true")) status body
+    (new ≡ old) × Gets request (Reports 200 (codes "true")) status body
 AnswersAt Segments old new request status body =
     AnswersGet (bytes_eq request.method (codes "GET")) old new (parameters_of request.target) status body
 AnswersAt Query old new request status body =
     (new ≡ old) × Allows (bytes_eq request.method (codes "POST")) (AnswersQuery old.held request.body) status body
-AnswersAt Nowhere old new request status body = (new ≡ old) × Tells 404 (codes "{\"error\":\"NoRoute\"}") status body
+AnswersAt Nowhere old new request status body = (new ≡ old) × Reports 404 (codes "{\"error\":\"NoRoute\"}") status body
 
 -- what a node in the old state answers to the request; then it is in the new one
 abbrev pub Responds : State → State → RequestValue → ℕ → List ℕ → Type 0

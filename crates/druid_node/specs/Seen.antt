@@ -32,7 +32,7 @@ IsAtLeast found seen = mark_cmp found seen ≢ Less
 -- N8, exactly where the state is older than what was seen, and else why the state refuses
 abbrev pub RefusesAsSeen : ℕ → (NodeFault → Type 0) → Point → Point → NodeFault → Type 0
 RefusesAsSeen incarnation Why found seen fault =
-    (IsStale incarnation found seen × (fault ≡ faults.Behind found)) ⊎ (IsAtLeast found seen × Why fault)
+    (IsStale incarnation found seen × (fault ≡ faults.Stale found)) ⊎ (IsAtLeast found seen × Why fault)
 
 -- a node of that incarnation made a change, in a state not older than what was seen before; what is seen after is its mark then
 pub record Changes (incarnation : ℕ) (Made : State → State → Type 0) (before after : Point) : Type 0 where
@@ -71,7 +71,7 @@ RefusesLoad incarnation seen faults.NameDiffers = ⊥
 RefusesLoad incarnation seen (faults.History fault) = IsLoadRefusal fault
 RefusesLoad incarnation seen (faults.Wire fault) = ⊥
 RefusesLoad incarnation seen faults.NoFile = ⊥
-RefusesLoad incarnation seen (faults.Behind found) = IsStale incarnation found seen
+RefusesLoad incarnation seen (faults.Stale found) = IsStale incarnation found seen
 RefusesLoad incarnation seen faults.NotPartitionZero = ⊥
 RefusesLoad incarnation seen faults.Memory = ⊤
 
@@ -83,7 +83,7 @@ RefusesDrop incarnation seen faults.NameDiffers = ⊥
 RefusesDrop incarnation seen (faults.History fault) = (fault ≡ NotServed) ⊎ (fault ≡ CountAtEnd)
 RefusesDrop incarnation seen (faults.Wire fault) = ⊥
 RefusesDrop incarnation seen faults.NoFile = ⊥
-RefusesDrop incarnation seen (faults.Behind found) = IsStale incarnation found seen
+RefusesDrop incarnation seen (faults.Stale found) = IsStale incarnation found seen
 RefusesDrop incarnation seen faults.NotPartitionZero = ⊥
 RefusesDrop incarnation seen faults.Memory = ⊤
 
@@ -95,7 +95,7 @@ RefusesTombstone incarnation id seen faults.NameDiffers = ⊥
 RefusesTombstone incarnation id seen (faults.History fault) = (id.partition ≡ 0) × IsLoadRefusal fault
 RefusesTombstone incarnation id seen (faults.Wire fault) = ⊥
 RefusesTombstone incarnation id seen faults.NoFile = ⊥
-RefusesTombstone incarnation id seen (faults.Behind found) = (id.partition ≡ 0) × IsStale incarnation found seen
+RefusesTombstone incarnation id seen (faults.Stale found) = (id.partition ≡ 0) × IsStale incarnation found seen
 RefusesTombstone incarnation id seen faults.NotPartitionZero = id.partition ≢ 0
 RefusesTombstone incarnation id seen faults.Memory = id.partition ≡ 0
 
@@ -129,7 +129,7 @@ IsServedAsSeen incarnation seen now before after old new sent =
 pub record IsPassedBy (incarnation : ℕ) (seen : Point) (before after old new : Option (List ℕ)) (fault : NodeFault) : Type 0 where
   pub found : Point
   pub beyond : IsStale incarnation found seen
-  pub reported : fault ≡ faults.Behind found
+  pub reported : fault ≡ faults.Stale found
   pub read : IfSome before (λ input. (request : RequestValue) × (rest : List ℕ) × (after ≡ Some rest) × IsRequest input request rest)
   pub unwritten : new ≡ old
 

@@ -84,7 +84,7 @@ Refuses kept change faults.NameDiffers = ⊥
 Refuses kept change (faults.History fault) = refusal kept change ≡ Some fault
 Refuses kept change (faults.Wire fault) = ⊥
 Refuses kept change faults.NoFile = ⊥
-Refuses kept change (faults.Behind found) = ⊥
+Refuses kept change (faults.Stale found) = ⊥
 Refuses kept change faults.NotPartitionZero = ⊥
 Refuses kept change faults.Memory = refusal kept change ≡ None
 
@@ -101,6 +101,6 @@ RefusesToCover kept id faults.NameDiffers = ⊥
 RefusesToCover kept id (faults.History fault) = (id.partition ≡ 0) × (refusal kept (Load (tombstone_of id)) ≡ Some fault)
 RefusesToCover kept id (faults.Wire fault) = ⊥
 RefusesToCover kept id faults.NoFile = ⊥
-RefusesToCover kept id (faults.Behind found) = ⊥
+RefusesToCover kept id (faults.Stale found) = ⊥
 RefusesToCover kept id faults.NotPartitionZero = id.partition ≡ 0 → ⊥
 RefusesToCover kept id faults.Memory = (id.partition ≡ 0) × (refusal kept (Load (tombstone_of id)) ≡ None)

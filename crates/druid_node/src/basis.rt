@@ -2,12 +2,12 @@
 ghost use Rattle.std.specs.Prelude.{◌≡◌, IfOk, IfErr, OnErr};
 ghost use Rattle.druid_sync_text.specs.Back.{IsReadBack};
 ghost use Rattle.druid_sync_text.specs.Written.{reply_text};
-ghost use Rattle.druid_http_wire.specs.Served.{Tells};
+ghost use Rattle.druid_http_wire.specs.Served.{Reports};
 ghost use Rattle.druid_partial_text.specs.Answers.{answer_text};
 ghost use Rattle.druid_node.specs.Questions.{IsMadeOf, IsUnmade};
 
 use crate::NodeFault;
-use crate::answering::{answer_in_parts, answer_of};
+use crate::answer::{answer_in_parts, answer_of};
 use crate::held::Held;
 use druid_http_wire::Response;
 use druid_partial_text::{NodeAnswer, node_answer_text};
@@ -31,7 +31,7 @@ pub(crate) enum Basis {
 }
 
 fn answer_with(alloc: Global, reply: &Reply) -> Result<Response, NodeFault>
-    ensures ok { IfOk result (λ r. IsReadBack reply.now × Tells 200 (reply_text reply.now) r.status r.body) }
+    ensures ok { IfOk result (λ r. IsReadBack reply.now × Reports 200 (reply_text reply.now) r.status r.body) }
     ensures err { IfErr result (λ fault. fault ≡ NodeFault.Memory) }
 {
     match reply_text(alloc, reply) {
@@ -42,7 +42,7 @@ fn answer_with(alloc: Global, reply: &Reply) -> Result<Response, NodeFault>
 
 // The response of an answer to a subquery.
 fn answer_sub(alloc: Global, answer: &NodeAnswer) -> Result<Response, NodeFault>
-    ensures ok { IfOk result (λ r. Tells 200 (answer_text answer.now) r.status r.body) }
+    ensures ok { IfOk result (λ r. Reports 200 (answer_text answer.now) r.status r.body) }
     ensures err { IfErr result (λ fault. fault ≡ NodeFault.Memory) }
 {
     match node_answer_text(alloc, answer) {

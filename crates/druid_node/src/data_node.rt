@@ -5,7 +5,7 @@ ghost use Rattle.druid_segment_descriptor.specs.Mark.{Point, mark_cmp};
 ghost use Rattle.druid_sync_history.specs.Kept.{described_named};
 ghost use Rattle.druid_segment_rows.specs.Segment.{Segment};
 ghost use Rattle.druid_folder.specs.Folder.{IsOwnFault, read_part, bytes_read};
-ghost use Rattle.druid_segment_file.specs.Reading.{segment_at};
+ghost use Rattle.druid_segment_file.specs.Reader.{segment_at};
 ghost use Rattle.druid_node.specs.Files.{file_name, named, file_at, reported_as, RefusesFile, IsOfFile, size_of, RefusesBytes, RefusesFound, FailsRead, IsDecoded, RefusesDecode, faults_after_load};
 ghost use Rattle.druid_node.specs.State.{Takes, Covers, RefusesToCover, RefusesToDrop};
 ghost use Rattle.druid_node.specs.Seen.{Changes, Drops, RefusesChange, IsStale, RefusesLoad, RefusesDrop, RefusesTombstone, AnswersFrom};
@@ -14,7 +14,7 @@ ghost use Rattle.druid_node.specs.Routes.{RespondsInTurn, TakesMemory, route_of}
 ghost use Rattle.druid_node.specs.Questions.{Asks, IsOpen, IsBasisFrom};
 
 use crate::question::{Question, question_of};
-use crate::seen::{Answered, Based, StateIn, answer_for};
+use crate::seen_mark::{Answered, Based, StateIn, answer_for};
 use crate::{Incarnation, LoadedFile, NodeFault, NodeState};
 use druid_folder::{Folder, StoreFault};
 use druid_http_message::Request;
@@ -175,7 +175,7 @@ impl<I: Incarnation> DataNode<I> {
     // what is replied, and, where an ask freezes what is served, for one of that.
     fn basis_of(&self, rt: &impl Wait, question: Question, seen: Mark) -> Result<Based, NodeFault>
         ensures ok { IfOk result (λ b. IsBasisFrom I.number seen b.mark question b.basis) }
-        ensures err { IfErr result (λ fault. (found : Point) × IsStale I.number found seen × (fault ≡ NodeFault.Behind found)) }
+        ensures err { IfErr result (λ fault. (found : Point) × IsStale I.number found seen × (fault ≡ NodeFault.Stale found)) }
     {
         self.state.lock(rt).basis_of(question, seen)
     }
@@ -189,7 +189,7 @@ impl<I: Incarnation> DataNode<I> {
         seen: Mark,
     ) -> Result<Answered, NodeFault>
         ensures ok { IfOk result (λ a. AnswersFrom I.number seen a.mark request.now a.response.status a.response.body) }
-        ensures err { IfErr result (λ fault. (found : Point) × IsStale I.number found seen × (fault ≡ NodeFault.Behind found)) }
+        ensures err { IfErr result (λ fault. (found : Point) × IsStale I.number found seen × (fault ≡ NodeFault.Stale found)) }
     {
         let question = question_in_turn(self.alloc, request);
         let based = self.basis_of(rt, question, seen)?;

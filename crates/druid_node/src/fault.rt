@@ -35,7 +35,7 @@ pub enum NodeFault {
     NotPartitionZero,
     /// N8: its state is older than the mark that the caller has seen. It tells the state's mark.
     #[error("N8: older than what was seen")]
-    Behind(Mark),
+    Stale(Mark),
     /// N9: out of memory.
     #[error("N9: out of memory")]
     Memory,

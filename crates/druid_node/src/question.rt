@@ -3,7 +3,7 @@ ghost use Rattle.std.specs.Prelude.{◌≡◌, ◌≢◌, IsSome, IfOk, IfErr, O
 ghost use Rattle.druid_sync_text.specs.Asks.{ask_at};
 ghost use Rattle.druid_http_message.specs.Requests.{path_of};
 ghost use Rattle.druid_query.specs.Refused.{refusal_text};
-ghost use Rattle.druid_http_wire.specs.Served.{Tells};
+ghost use Rattle.druid_http_wire.specs.Served.{Reports};
 ghost use Rattle.druid_node.specs.Routes.{AnswersAsk, AnswersQuery, AnswersAt, Responds, TakesMemory, route_of};
 ghost use Rattle.druid_node.specs.Questions.{Asks, IsOpen};
 
@@ -31,7 +31,7 @@ pub(crate) enum Question {
 
 // What is no subquery.
 fn refuse(alloc: Global, fault: QueryFault) -> Result<Question, NodeFault>
-    ensures ok { IfOk result (λ q. (fault ≢ QueryFault.Memory) × Asks q (λ old new status body. (new ≡ old) × Tells 400 (refusal_text fault) status body)) }
+    ensures ok { IfOk result (λ q. (fault ≢ QueryFault.Memory) × Asks q (λ old new status body. (new ≡ old) × Reports 400 (refusal_text fault) status body)) }
     ensures err { IfErr result (λ fault. fault ≡ NodeFault.Memory) }
 {
     match fault {

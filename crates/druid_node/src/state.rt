@@ -16,7 +16,7 @@ ghost use Rattle.druid_node.specs.Answers.{IsAnswerOf};
 ghost use Rattle.druid_node.specs.Held.{state_of};
 
 use crate::NodeFault;
-use crate::answering::answer_of;
+use crate::answer::answer_of;
 use crate::held::Held;
 use druid_partial_text::NodeAnswer;
 use druid_query::SubQuery;

@@ -193,8 +193,8 @@ at_group kind place (x ∷ xs) s g c =
 pub number_of : (kinds : List AggregatorKind) (rows groups : List Group) → IsResult kinds rows groups → (g : Group) → Contains groups g → (place : ℕ) (kind : AggregatorKind) → slice_get kinds place ≡ Some kind → number_at place g ≡ at kind g.key place rows
 number_of kinds rows groups r g c place kind k = counted_alone kind _ _ ((r.each g c).aggregates place kind k)
 
-pub result_tells : (kinds : List AggregatorKind) (rows groups : List Group) → IsResult kinds rows groups → (place : ℕ) (kind : AggregatorKind) → slice_get kinds place ≡ Some kind → (key : Key) → at kind key place groups ≡ at kind key place rows
-result_tells kinds rows groups r place kind k key =
+pub result_reports : (kinds : List AggregatorKind) (rows groups : List Group) → IsResult kinds rows groups → (place : ℕ) (kind : AggregatorKind) → slice_get kinds place ≡ Some kind → (key : Key) → at kind key place groups ≡ at kind key place rows
+result_reports kinds rows groups r place kind k key =
     ⊎_elim
     (λ o.
     let g = o.0 in
@@ -234,7 +234,7 @@ pub result_is_alike : (kinds : List AggregatorKind) (rows groups : List Group) �
 result_is_alike kinds rows groups r = record {
   to = λ key o. let there = (r.each o.0 o.1).occurs in (there.0, there.1, there.2 ∙ o.2);
   back = λ key o. let there = r.whole o.0 o.1 in (there.0, there.1, there.2 ∙ o.2);
-  same = λ place kind k key. result_tells kinds rows groups r place kind k key;
+  same = λ place kind k key. result_reports kinds rows groups r place kind k key;
 }
 
 pub alike_append : (kinds : List AggregatorKind) (a b c d : List Group) → Alike kinds a b → Alike kinds c d → Alike kinds (a ++ c) (b ++ d)

@@ -41,8 +41,8 @@ word_at (x ∷ xs) zero w = All-head IsWord x xs w
 word_at (x ∷ xs) (suc place) w = word_at xs place (All-tail IsWord x xs w)
 
 -- a kept group tells its own numbers
-pub kept_tells : (kinds : List AggregatorKind) (g : Group) → HasNumbers kinds g → (place : ℕ) (kind : AggregatorKind) → one kind place g ≡ number_at place g
-kept_tells kinds g k place kind = again_word kind (number_at place g) (word_at g.numbers place k.words)
+pub kept_reports : (kinds : List AggregatorKind) (g : Group) → HasNumbers kinds g → (place : ℕ) (kind : AggregatorKind) → one kind place g ≡ number_at place g
+kept_reports kinds g k place kind = again_word kind (number_at place g) (word_at g.numbers place k.words)
 
 pub joined_at : (kinds : List AggregatorKind) (xs ys : List (Option ℤ)) → length xs ≡ length kinds → length ys ≡ length kinds → (place : ℕ) (kind : AggregatorKind) → slice_get kinds place ≡ Some kind → slice_index_or (join_numbers kinds xs ys) place None ≡ joined kind (slice_index_or xs place None) (slice_index_or ys place None)
 joined_at [] xs ys p q place kind k = absurd (cc)
@@ -76,7 +76,7 @@ beyond_absent key rows b o = less_apart key o.0.key (b o.0 o.1) (sym o.2)
 
 -- a group in front that tells what some rows of its key do, which are in front of all others
 pub front_group : (kinds : List AggregatorKind) (g : Group) (front rows groups : List Group) → length g.numbers ≡ length kinds → ((key : Key) → Occurs key front → g.key ≡ key) → Occurs g.key front → ((place : ℕ) (kind : AggregatorKind) → slice_get kinds place ≡ Some kind → number_at place g ≡ at kind g.key place front) → IsResult kinds rows groups → Beyond g.key rows → IsResult kinds (front ++ rows) (g ∷ groups)
-front_group kinds g front rows groups numbers only there tells r b = record {
+front_group kinds g front rows groups numbers only there reports r b = record {
   ordered = in_order_more g groups (beyond_result kinds g.key rows groups r b) r.ordered;
   each = λ h c. ⊎_elim (λ e. let P : Group → Type 0 = λ x. IsGroupOf kinds (front ++ rows) x in subst P e first) (λ more. other h more) (Contains-cons g groups h c);
   whole = λ row c. ⊎_elim
@@ -91,7 +91,7 @@ front_group kinds g front rows groups numbers only there tells r b = record {
       one_each = numbers;
       aggregates = λ place kind k.
           let counted_here : number_at place g ≡ at kind g.key place (front ++ rows) =
-          tells place kind k ∙ sym (joined-none kind (at kind g.key place front))
+          reports place kind k ∙ sym (joined-none kind (at kind g.key place front))
           ∙ ap (joined kind (at kind g.key place front)) (sym (at-absent kind place g.key rows (beyond_absent g.key rows b)))
           ∙ sym (at-append kind g.key place front rows) in
           let P : Option ℤ → Type 0 = λ n. IsAggregate kind (known (column g.key place (front ++ rows))) n in
@@ -119,7 +119,7 @@ front_one kinds g rows groups k r b =
     front_group kinds g (g ∷ []) rows groups k.one_each
     (λ key o. ⊎_elim (λ e. e) (λ none. absurd (no_occurrence key none)) (occurs_cases g [] key o))
     (occurs_here g [])
-    (λ place kind _. sym (kept_tells kinds g k place kind) ∙ sym (joined-none kind (one kind place g)) ∙ sym (at-here kind place g [] g.key refl))
+    (λ place kind _. sym (kept_reports kinds g k place kind) ∙ sym (joined-none kind (one kind place g)) ∙ sym (at-here kind place g [] g.key refl))
     r b
 
 -- two of one key in front, as one
@@ -134,8 +134,8 @@ front_two kinds g h rows groups k l e r b =
     both : (place : ℕ) (kind : AggregatorKind) → at kind g.key place (g ∷ h ∷ []) ≡ joined kind (number_at place g) (number_at place h)
     both place kind =
         at-here kind place g (h ∷ []) g.key refl
-        ∙ ap (joined kind (one kind place g)) (at-here kind place h [] g.key e ∙ joined-none kind (one kind place h) ∙ kept_tells kinds h l place kind)
-        ∙ ap (λ x. joined kind x (number_at place h)) (kept_tells kinds g k place kind)
+        ∙ ap (joined kind (one kind place g)) (at-here kind place h [] g.key e ∙ joined-none kind (one kind place h) ∙ kept_reports kinds h l place kind)
+        ∙ ap (λ x. joined kind x (number_at place h)) (kept_reports kinds g k place kind)
 
 kept_head : (kinds : List AggregatorKind) (g : Group) (gs : List Group) → AreKept kinds (g ∷ gs) → HasNumbers kinds g
 kept_head kinds g gs k = k g (Contains-here g gs)

@@ -4,7 +4,7 @@ ghost use Rattle.druid_filter.specs.Values.{nullable_texts_of};
 ghost use Rattle.druid_partial.specs.Groups.{key_cmp, AreWords};
 ghost use Rattle.druid_partial.specs.Joined.{join_groups};
 
-use crate::joining::join_numbers;
+use crate::numbers::join_numbers;
 use druid_query::AggregatorKind;
 use druid_time::Instant;
 use std::cmp::Ordering;

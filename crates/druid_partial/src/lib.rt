@@ -4,17 +4,17 @@
 mod answer;
 mod buckets;
 mod group;
-mod joining;
 mod laws;
-mod merging;
+mod merged_partial;
+mod numbers;
 mod partial;
 
 pub use answer::Answer;
 pub use buckets::{earliest, is_bucket};
 pub use group::Group;
-pub use joining::{join_number, join_numbers};
 pub use laws::{
     merge_is_the_result_of_both, merges_commute, merges_regroup, no_rows_change_nothing, one_result,
 };
-pub use merging::{MergeRefused, merge};
+pub use merged_partial::{MergeRefused, merge};
+pub use numbers::{join_number, join_numbers};
 pub use partial::{Partial, kinds_of};

@@ -21,7 +21,7 @@ use Rattle.druid_partial.proofs.JoinLemmas.{merged_each, has_joined, group_for}
 use Rattle.druid_partial_scan.specs.Cells.{Filled, Cells, joined_cell, joined_cells}
 use Rattle.druid_partial_scan.specs.Scans.{AreCounted}
 use Rattle.druid_partial_scan.specs.Slices.{Texts, IsRising, IsHeld, AreHeld, group_of, groups_held, present, texts_in, IsTally, AreTallied}
-use Rattle.druid_partial_scan.specs.Told.{Slice, told_by}
+use Rattle.druid_partial_scan.specs.SliceGroups.{Slice, slice_groups}
 use Rattle.druid_partial_scan.proofs.RadixLemmas.{equal_is}
 use Rattle.druid_partial_scan.proofs.RankLemmas.{next_rank}
 use Rattle.druid_partial_scan.proofs.SliceLemmas.{held_order}
@@ -126,9 +126,9 @@ merged_counted query a b x y p q =
     }
 
 -- what two parts of the slices tell
-told_both : (query : Query) (slices front back : List Slice) (n : ℕ) → front ≡ take n slices → back ≡ drop n slices → flat_map (told_by query) slices ≡ flat_map (told_by query) front ++ flat_map (told_by query) back
-told_both query slices front back n f b =
-    ap (flat_map (told_by query)) (sym ((λ i. f i ++ b i) ∙ take-append-drop n slices)) ∙ flat_map-append (told_by query) front back
+reported_both : (query : Query) (slices front back : List Slice) (n : ℕ) → front ≡ take n slices → back ≡ drop n slices → flat_map (slice_groups query) slices ≡ flat_map (slice_groups query) front ++ flat_map (slice_groups query) back
+reported_both query slices front back n f b =
+    ap (flat_map (slice_groups query)) (sym ((λ i. f i ++ b i) ∙ take-append-drop n slices)) ∙ flat_map-append (slice_groups query) front back
 
 joined_long : (kinds : List AggregatorKind) (xs ys : List (Option (Filled Key))) → length (joined_cells kinds xs ys) ≡ length xs
 joined_long kinds [] ys = refl
@@ -160,13 +160,13 @@ both_rows query texts a b rows mine theirs new rising both w is p q =
 pub both_alike : (query : Query) (lists : List (Bor (List (Bor (List ℕ))))) (front back : List Slice) (left right : Option (Cells Key)) (mine theirs : Cells Key) → left ≡ Some mine → right ≡ Some theirs → AreTallied query lists front left → AreTallied query lists back right → (theirs.width ≡ mine.width) × (length theirs.groups ≡ length mine.groups)
 both_alike query lists front back left right mine theirs l r a b =
     let texts = texts_in lists in
-    let p = if_some (IsTally query texts (flat_map (told_by query) front)) left mine l a in
-    let q = if_some (IsTally query texts (flat_map (told_by query) back)) right theirs r b in
+    let p = if_some (IsTally query texts (flat_map (slice_groups query) front)) left mine l a in
+    let q = if_some (IsTally query texts (flat_map (slice_groups query) back)) right theirs r b in
     (q.room.width ∙ sym p.room.width, q.room.long ∙ sym p.room.long)
 
 pub both_tallied : (query : Query) (lists : List (Bor (List (Bor (List ℕ))))) (slices front back : List Slice) (n : ℕ) (left right : Option (Cells Key)) (mine theirs new : Cells Key) → All IsRising (texts_in lists) → front ≡ take n slices → back ≡ drop n slices → new.width ≡ mine.width → new.groups ≡ joined_cells (kinds_of query) mine.groups theirs.groups → left ≡ Some mine → right ≡ Some theirs → AreTallied query lists front left → AreTallied query lists back right → AreTallied query lists slices (Some new)
 both_tallied query lists slices front back n left right mine theirs new rising f s w is l r a b =
     let texts = texts_in lists in
-    both_rows query texts (flat_map (told_by query) front) (flat_map (told_by query) back) (flat_map (told_by query) slices) mine theirs new rising (told_both query slices front back n f s) w is
-    (if_some (IsTally query texts (flat_map (told_by query) front)) left mine l a)
-    (if_some (IsTally query texts (flat_map (told_by query) back)) right theirs r b)
+    both_rows query texts (flat_map (slice_groups query) front) (flat_map (slice_groups query) back) (flat_map (slice_groups query) slices) mine theirs new rising (reported_both query slices front back n f s) w is
+    (if_some (IsTally query texts (flat_map (slice_groups query) front)) left mine l a)
+    (if_some (IsTally query texts (flat_map (slice_groups query) back)) right theirs r b)

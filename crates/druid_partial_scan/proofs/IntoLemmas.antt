@@ -3,9 +3,9 @@ use Rattle.std.proofs.Common.{◌≡◌, ℕ, zero, suc, ◌+◌, ◌<◌, ℤ, 
 use Rattle.druid_query.specs.declared.aggregator.AggregatorKind.{AggregatorKind}
 use Rattle.druid_partial.specs.Joined.{joined, join_numbers}
 use Rattle.druid_partial_scan.specs.Cells.{join_into, number_from}
-use Rattle.druid_partial_scan.specs.declared.cells.Numbers.{Numbers}
+use Rattle.druid_partial_scan.specs.declared.cells.NumberColumn.{NumberColumn}
 
-into_suc : (kinds : List AggregatorKind) (cs : List Numbers) (row : ℕ) (ys : List (Option ℤ)) (i : ℕ) (k : AggregatorKind) (c : Numbers) (y : Option ℤ) → i < length kinds → i < length cs → i < length ys → join_into (take (suc i) kinds) (map (number_from row) cs) ys ≡ set (join_into (take i kinds) (map (number_from row) cs) ys) i (joined (get_or kinds i k) (number_from row (get_or cs i c)) (get_or (join_into (take i kinds) (map (number_from row) cs) ys) i y))
+into_suc : (kinds : List AggregatorKind) (cs : List NumberColumn) (row : ℕ) (ys : List (Option ℤ)) (i : ℕ) (k : AggregatorKind) (c : NumberColumn) (y : Option ℤ) → i < length kinds → i < length cs → i < length ys → join_into (take (suc i) kinds) (map (number_from row) cs) ys ≡ set (join_into (take i kinds) (map (number_from row) cs) ys) i (joined (get_or kinds i k) (number_from row (get_or cs i c)) (get_or (join_into (take i kinds) (map (number_from row) cs) ys) i y))
 into_suc [] cs row ys i k c y p q r = absurd (omega arith)
 into_suc (a ∷ kinds) [] row ys i k c y p q r = absurd (omega arith)
 into_suc (a ∷ kinds) (b ∷ cs) row [] i k c y p q r = absurd (omega arith)
@@ -13,10 +13,10 @@ into_suc (a ∷ kinds) (b ∷ cs) row (d ∷ ys) zero k c y p q r = refl
 into_suc (a ∷ kinds) (b ∷ cs) row (d ∷ ys) (suc i) k c y p q r =
     ap (λ l. joined a (number_from row b) d ∷ l) (into_suc kinds cs row ys i k c y (omega arith) (omega arith) (omega arith))
 
-pub into_more : (kinds : List AggregatorKind) (cs : List Numbers) (row : ℕ) (ys : List (Option ℤ)) (i : ℕ) (k : AggregatorKind) (c : Numbers) (y : Option ℤ) → i < length kinds → i < length cs → i < length ys → join_into (take (i + 1) kinds) (map (number_from row) cs) ys ≡ set (join_into (take i kinds) (map (number_from row) cs) ys) i (joined (get_or kinds i k) (number_from row (get_or cs i c)) (get_or (join_into (take i kinds) (map (number_from row) cs) ys) i y))
+pub into_more : (kinds : List AggregatorKind) (cs : List NumberColumn) (row : ℕ) (ys : List (Option ℤ)) (i : ℕ) (k : AggregatorKind) (c : NumberColumn) (y : Option ℤ) → i < length kinds → i < length cs → i < length ys → join_into (take (i + 1) kinds) (map (number_from row) cs) ys ≡ set (join_into (take i kinds) (map (number_from row) cs) ys) i (joined (get_or kinds i k) (number_from row (get_or cs i c)) (get_or (join_into (take i kinds) (map (number_from row) cs) ys) i y))
 into_more kinds cs row ys i k c y p q r = rw add-one (into_suc kinds cs row ys i k c y p q r)
 
-pub into_all : (kinds : List AggregatorKind) (cs : List Numbers) (row : ℕ) (ys : List (Option ℤ)) (n : ℕ) → n ≡ min (min (length kinds) (length cs)) (length ys) → join_into (take n kinds) (map (number_from row) cs) ys ≡ join_into kinds (map (number_from row) cs) ys
+pub into_all : (kinds : List AggregatorKind) (cs : List NumberColumn) (row : ℕ) (ys : List (Option ℤ)) (n : ℕ) → n ≡ min (min (length kinds) (length cs)) (length ys) → join_into (take n kinds) (map (number_from row) cs) ys ≡ join_into kinds (map (number_from row) cs) ys
 into_all [] cs row ys n e = let z : n ≡ 0 = omega arith in rw z refl
 into_all (k ∷ kinds) [] row ys n e = let z : n ≡ 0 = omega arith in rw z refl
 into_all (k ∷ kinds) (c ∷ cs) row [] n e = let z : n ≡ 0 = omega arith in rw z refl

@@ -1,7 +1,7 @@
 pub mod KeyLemmas
 pub mod PlaceLemmas
 pub mod EntryLemmas
-pub mod TellLemmas
+pub mod ReportLemmas
 pub mod CodeFilterLemmas
 pub mod OnceLemmas
 pub mod CellLemmas

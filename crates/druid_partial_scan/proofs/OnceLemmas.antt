@@ -17,7 +17,7 @@ use Rattle.druid_query.proofs.AskedLemmas.{overlap_reported, apart_reported}
 use Rattle.druid_query.specs.declared.aggregator.AggregatorKind.{AggregatorKind}
 use Rattle.druid_partial.specs.Groups.{Group, IsResult}
 use Rattle.druid_partial.specs.Partials.{kinds_of}
-use Rattle.druid_partial_scan.specs.Rows.{is_asked, tells, counted_by, passes_if}
+use Rattle.druid_partial_scan.specs.Rows.{is_asked, row_group, counted_by, passes_if}
 use Rattle.druid_partial_scan.specs.Once.{segment_named, HaveOwnSegments, counted_in, counted_of, counted_groups, is_counted, counted_by_some, counted_once}
 use Rattle.druid_partial.proofs.GroupLemmas.{Alike, result_alike, alike_append, alike_itself, alike_through, alike_equal, second_first}
 
@@ -66,8 +66,8 @@ clash query a s row (b ∷ more) none here asked some =
     none_later true e = absurd (false≢true (sym e))
     none_later false e = e
 
-rows_same : (query : Query) (s : Segment) (p q : Row → Bool) → ((row : Row) → p row ≡ q row) → map (tells query s.fields) (filter p s.rows) ≡ map (tells query s.fields) (filter q s.rows)
-rows_same query s p q agree = ap (λ rows. map (tells query s.fields) rows) (filter_agree p q agree s.rows)
+rows_same : (query : Query) (s : Segment) (p q : Row → Bool) → ((row : Row) → p row ≡ q row) → map (row_group query s.fields) (filter p s.rows) ≡ map (row_group query s.fields) (filter q s.rows)
+rows_same query s p q agree = ap (λ rows. map (row_group query s.fields) rows) (filter_agree p q agree s.rows)
 
 -- a piece of another segment
 other_segment : (query : Query) (a : Asked) (more : List Asked) (s : Segment) → same_identifier a.0 s.descriptor.id ≡ false → counted_by_some query more s ≡ counted_by_some query (a ∷ more) s
@@ -94,7 +94,7 @@ one_more query a more (s ∷ rest) own none = by_test (one_more query a more res
       let y = counted_once query more rest in
       let front : counted_of query (s ∷ rest) a ≡ counted_by query s a.1 = ap (λ t. counted_in query a.1 (cond t (Some s) (segment_named a.0 rest))) e in
       let gone : segment_named a.0 rest ≡ None = subst (λ (k : Identifier). segment_named k rest ≡ None) (sym (same_identifier-true a.0 s.descriptor.id e)) own.0 in
-      let either = either_rows kinds (tells query s.fields) (is_asked query a.1 s.fields) (is_counted query more s) s.rows (λ row asked some. clash query a s row more none e asked some) in
+      let either = either_rows kinds (row_group query s.fields) (is_asked query a.1 s.fields) (is_counted query more s) s.rows (λ row asked some. clash query a s row more none e asked some) in
       let same = rows_same query s (λ row. is_asked query a.1 s.fields row || is_counted query more s row) (is_counted query (a ∷ more) s) (λ row. sym (ap (λ b. (b && is_asked query a.1 s.fields row) || is_counted query more s row) e)) in
       let rows = subst (Alike kinds (counted_by query s a.1 ++ x)) same either in
       alike_through kinds (counted_of query (s ∷ rest) a ++ (x ++ y)) ((counted_by query s a.1 ++ x) ++ y) (counted_by_some query (a ∷ more) s ++ counted_once query (a ∷ more) rest)
@@ -116,7 +116,7 @@ none_pass (r ∷ rs) = none_pass rs
 
 nothing_counted : (query : Query) (segments : List Segment) → [] ≡ counted_once query [] segments
 nothing_counted query [] = refl
-nothing_counted query (s ∷ rest) = nothing_counted query rest ∙ (λ i. map (tells query s.fields) (sym (none_pass s.rows) i) ++ counted_once query [] rest)
+nothing_counted query (s ∷ rest) = nothing_counted query rest ∙ (λ i. map (row_group query s.fields) (sym (none_pass s.rows) i) ++ counted_once query [] rest)
 
 pub counted_alike : (query : Query) (segments : List Segment) (asked : List Asked) → HaveOwnSegments segments → stand_apart asked ≡ true → Alike (kinds_of query) (counted_groups query segments asked) (counted_once query asked segments)
 counted_alike query segments [] own apart = alike_equal (kinds_of query) [] (counted_once query [] segments) (nothing_counted query segments)

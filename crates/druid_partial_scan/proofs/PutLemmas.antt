@@ -32,7 +32,7 @@ use Rattle.druid_partial_scan.proofs.PlaceLemmas.{values_counted}
 use Rattle.druid_partial_scan.proofs.RadixLemmas.{equal_is, cells_order}
 use Rattle.druid_partial_scan.proofs.RankLemmas.{next_rank}
 use Rattle.druid_partial_scan.proofs.IntoLemmas.{into_is}
-use Rattle.druid_partial_scan.proofs.TellLemmas.{counted_asked, counted_passed, row_numbers}
+use Rattle.druid_partial_scan.proofs.ReportLemmas.{counted_asked, counted_passed, row_numbers}
 
 abbrev pub HasColumns : Scan → Type 0
 HasColumns scan = AreColumns scan.segment (places_of scan.query scan.segment.fields) scan.columns

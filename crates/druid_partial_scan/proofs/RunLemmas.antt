@@ -20,7 +20,7 @@ use Rattle.druid_segment_rows.specs.Segment.{Segment, row_at}
 use Rattle.druid_query.specs.Query.{Query}
 use Rattle.druid_partial.specs.Groups.{Key, Group, Occurs, value_cmp, key_cmp}
 use Rattle.druid_partial.specs.Partials.{bucket_of, kinds_of, HasNumbers, IsGroupFor}
-use Rattle.druid_partial_scan.specs.Rows.{is_asked, passes_if, tells, counted_by}
+use Rattle.druid_partial_scan.specs.Rows.{is_asked, passes_if, row_group, counted_by}
 use Rattle.druid_filter.specs.Filters.{value_in}
 use Rattle.std.specs.List.{flat_map}
 use Rattle.druid_partial_scan.specs.Scans.{Scan, counted_at, bucket_at, AreCounted, AreUpto, counted_upto, ComeBefore, HaveBucket, BucketsRise, AreApart}
@@ -28,7 +28,7 @@ use Rattle.std.specs.Prelude.{unwrap_or}
 use Rattle.std.proofs.lemmas.Bool.{false_from_ne_true}
 use Rattle.druid_partial.proofs.OrderLemmas.{no_rows}
 use Rattle.druid_partial.proofs.GroupLemmas.{occurs_both, occurs_cases, no_occurrence}
-use Rattle.druid_partial_scan.proofs.TellLemmas.{upto_more}
+use Rattle.druid_partial_scan.proofs.ReportLemmas.{upto_more}
 
 later_bucket : (g : Granularity) (s t e : ℕ) → s ≤ t → unwrap_or (time_bucket g s) e ≤ unwrap_or (time_bucket g t) e
 later_bucket granularity.All s t e h = omega arith
@@ -92,7 +92,7 @@ nothing_before scan interval start end all h =
 
 pub whole_upto : (scan : Scan) (interval : Extent) (start end : ℕ) → StandIn scan interval start end → end ≤ length scan.segment.rows → counted_by scan.query scan.segment interval ≡ counted_upto scan.query scan.segment interval end
 whole_upto scan interval start end all h =
-    ap (λ rows. map (tells scan.query scan.segment.fields) (filter (is_asked scan.query interval scan.segment.fields) rows)) (sym (take_all (length scan.segment.rows) scan.segment.rows (omega arith)))
+    ap (λ rows. map (row_group scan.query scan.segment.fields) (filter (is_asked scan.query interval scan.segment.fields) rows)) (sym (take_all (length scan.segment.rows) scan.segment.rows (omega arith)))
     ∙ skip_to scan interval end (length scan.segment.rows) h (omega arith) (λ row low high. outside scan interval start end row all high (inr low))
 
 -- before the first place there is nothing
@@ -203,6 +203,6 @@ none_counted scan none (interval ∷ pieces) =
     let asked : (row : ℕ) → row < length rows → is_asked scan.query interval scan.segment.fields (row_at scan.segment row) ≡ false = λ row h.
     and_no (nat_le interval.start (row_at scan.segment row).time && nat_lt (row_at scan.segment row).time interval.end) _ (none row h) in
     let one : counted_by scan.query scan.segment interval ≡ [] =
-    ap (λ l. map (tells scan.query scan.segment.fields) (filter (is_asked scan.query interval scan.segment.fields) l)) (sym (take_all (length rows) rows (omega arith)))
+    ap (λ l. map (row_group scan.query scan.segment.fields) (filter (is_asked scan.query interval scan.segment.fields) l)) (sym (take_all (length rows) rows (omega arith)))
     ∙ skip_to scan interval 0 (length rows) (omega arith) (omega arith) (λ row low high. asked row high) in
     ap (λ l. l ++ flat_map (counted_by scan.query scan.segment) pieces) one ∙ none_counted scan none pieces

@@ -34,7 +34,7 @@ use Rattle.druid_partial_scan.proofs.PlaceLemmas.{values_counted}
 use Rattle.druid_partial_scan.proofs.RadixLemmas.{equal_is, radix, then_nothing}
 use Rattle.druid_partial_scan.proofs.RankLemmas.{next_rank, value_rank}
 use Rattle.druid_partial_scan.proofs.IntoLemmas.{into_is}
-use Rattle.druid_partial_scan.proofs.TellLemmas.{counted_and, row_for, row_numbers, upto_more}
+use Rattle.druid_partial_scan.proofs.ReportLemmas.{counted_and, row_for, row_numbers, upto_more}
 
 -- ---- numbers are in the order of the values
 
@@ -159,11 +159,11 @@ upto_skips texts scan interval row old mid h asked f =
     subst P (sym (upto_more scan.query scan.segment interval row false h asked ∙ append-nil _)) f
 
 -- one part more
-pub part_adds : {X : Type 0} (query : Query) (texts : Texts) (tells : X → List Group) (xs : List X) (i : ℕ) (x : X) (old mid new : List (Option Group)) → i < length xs → x ≡ get_or xs i x → Adds query texts (flat_map tells (take i xs)) old mid → Adds query texts (tells x) mid new → Adds query texts (flat_map tells (take (i + 1) xs)) old new
-part_adds query texts tells xs i x old mid new h is f s =
-    adds_then query texts (flat_map tells (take i xs)) (tells x) (flat_map tells (take (i + 1) xs)) old mid new
-    (ap (flat_map tells) (take_more xs i x h ∙ ap (λ y. take i xs ++ y ∷ []) (sym is)) ∙ flat_map-append tells (take i xs) (x ∷ [])
-    ∙ ap (λ l. flat_map tells (take i xs) ++ l) (append-nil (tells x))) f s
+pub part_adds : {X : Type 0} (query : Query) (texts : Texts) (row_group : X → List Group) (xs : List X) (i : ℕ) (x : X) (old mid new : List (Option Group)) → i < length xs → x ≡ get_or xs i x → Adds query texts (flat_map row_group (take i xs)) old mid → Adds query texts (row_group x) mid new → Adds query texts (flat_map row_group (take (i + 1) xs)) old new
+part_adds query texts row_group xs i x old mid new h is f s =
+    adds_then query texts (flat_map row_group (take i xs)) (row_group x) (flat_map row_group (take (i + 1) xs)) old mid new
+    (ap (flat_map row_group) (take_more xs i x h ∙ ap (λ y. take i xs ++ y ∷ []) (sym is)) ∙ flat_map-append row_group (take i xs) (x ∷ [])
+    ∙ ap (λ l. flat_map row_group (take i xs) ++ l) (append-nil (row_group x))) f s
 
 -- ---- rows of a scan
 

@@ -20,7 +20,7 @@ use Rattle.druid_partial_scan.specs.Scans.{Scan, counted_at, bucket_at, cell_at,
 use Rattle.std.proofs.lemmas.List.Elements.{All-nil, All-cons}
 use Rattle.druid_partial.proofs.GroupLemmas.{key_same}
 use Rattle.druid_partial_scan.proofs.IntoLemmas.{into_is}
-use Rattle.druid_partial_scan.proofs.TellLemmas.{row_numbers}
+use Rattle.druid_partial_scan.proofs.ReportLemmas.{row_numbers}
 use Rattle.druid_partial_scan.proofs.PutLemmas.{HasColumns, keys_order, with_kept}
 
 -- a row of the plan, and where its group belongs

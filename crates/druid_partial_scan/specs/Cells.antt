@@ -11,8 +11,8 @@ use Rattle.druid_partial.specs.Groups.{value_cmp}
 use Rattle.druid_partial_scan.specs.Places.{at_place}
 use Rattle.druid_query.specs.declared.aggregator.AggregatorKind.{AggregatorKind}
 use Rattle.druid_partial.specs.Joined.{joined, join_numbers}
-use Rattle.druid_partial_scan.specs.declared.cells.Numbers.{Numbers}
-use Rattle.druid_partial_scan.specs.declared.cells.Numbers.TheVariants as numbers
+use Rattle.druid_partial_scan.specs.declared.cells.NumberColumn.{NumberColumn}
+use Rattle.druid_partial_scan.specs.declared.cells.NumberColumn.TheVariants as numbers
 
 -- the codes of a dimension: how many there may be, and that of each row; where there are none, all rows have code 0
 pub record Column : Type 0 where
@@ -72,13 +72,13 @@ join_into (kind ∷ kinds) (x ∷ xs) [] = []
 join_into (kind ∷ kinds) (x ∷ xs) (y ∷ ys) = joined kind x y ∷ join_into kinds xs ys
 
 -- the number that an aggregator takes of a row
-abbrev pub number_from : ℕ → Numbers → Option ℤ
+abbrev pub number_from : ℕ → NumberColumn → Option ℤ
 number_from row numbers.One = Some (pos 1)
 number_from row numbers.Null = None
 number_from row (numbers.Metric of) = slice_index_or of.now row None
 
 -- there is one for the row
-abbrev pub HasNumber : ℕ → Numbers → Type 0
+abbrev pub HasNumber : ℕ → NumberColumn → Type 0
 HasNumber row numbers.One = ⊤
 HasNumber row numbers.Null = ⊤
 HasNumber row (numbers.Metric of) = row < length of.now

@@ -1,7 +1,7 @@
 -- what public contracts rest on
 pub mod Rows
 pub mod Once
-pub mod Told
+pub mod SliceGroups
 -- words of private contracts
 pub mod Places
 pub mod Entries

@@ -8,7 +8,7 @@ use Rattle.druid_segment_rows.specs.Segment.{Segment}
 use Rattle.druid_query.specs.Query.{Query}
 use Rattle.druid_query.specs.Asked.{Asked}
 use Rattle.druid_partial.specs.Groups.{Group}
-use Rattle.druid_partial_scan.specs.Rows.{tells, is_asked, counted_by}
+use Rattle.druid_partial_scan.specs.Rows.{row_group, is_asked, counted_by}
 
 -- the segment of that identifier
 abbrev pub segment_named : Identifier → List Segment → Option Segment
@@ -39,7 +39,7 @@ is_counted query asked s row = list_any (λ a. same_identifier a.0 s.descriptor.
 
 -- what a segment's rows tell that some piece asks for, each row once
 abbrev pub counted_by_some : Query → List Asked → Segment → List Group
-counted_by_some query asked s = map (tells query s.fields) (filter (is_counted query asked s) s.rows)
+counted_by_some query asked s = map (row_group query s.fields) (filter (is_counted query asked s) s.rows)
 
 -- the same of all segments
 abbrev pub counted_once : Query → List Asked → List Segment → List Group

@@ -6,8 +6,8 @@ use Rattle.druid_segment_rows.specs.Rows.{Schema, Row}
 use Rattle.druid_query.specs.Query.{Query, Aggregator}
 use Rattle.druid_query.specs.declared.aggregator.AggregatorKind.{AggregatorKind}
 use Rattle.druid_query.specs.declared.aggregator.AggregatorKind.TheVariants.{Count, LongSum, LongMin, LongMax}
-use Rattle.druid_partial_scan.specs.declared.located.NumberSource.{NumberSource}
-use Rattle.druid_partial_scan.specs.declared.located.NumberSource.TheVariants as sources
+use Rattle.druid_partial_scan.specs.declared.field_sources.NumberSource.{NumberSource}
+use Rattle.druid_partial_scan.specs.declared.field_sources.NumberSource.TheVariants as sources
 
 -- the first place of a name
 abbrev pub place_in : List (List ℕ) → List ℕ → Option ℕ

@@ -34,8 +34,8 @@ abbrev pub value_for : Schema → Row → Dimension → Option (List ℕ)
 value_for fields row d = value_in fields.dimensions row.dimensions d.dimension
 
 -- what a row tells a query
-abbrev pub tells : Query → Schema → Row → Group
-tells query fields row = record {
+abbrev pub row_group : Query → Schema → Row → Group
+row_group query fields row = record {
   key = record { bucket = bucket_of query row.time; values = map (value_for fields row) query.dimensions };
   numbers = map (taken fields row) query.aggregations;
 }
@@ -53,4 +53,4 @@ is_asked query interval fields row =
 
 -- what the rows of a segment in an interval tell a query
 abbrev pub counted_by : Query → Segment → Extent → List Group
-counted_by query segment interval = map (tells query segment.fields) (filter (is_asked query interval segment.fields) segment.rows)
+counted_by query segment interval = map (row_group query segment.fields) (filter (is_asked query interval segment.fields) segment.rows)

@@ -9,14 +9,14 @@ use Rattle.druid_query.specs.declared.aggregator.AggregatorKind.{AggregatorKind}
 use Rattle.druid_partial.specs.Groups.{Group, IsResult, key_cmp}
 use Rattle.druid_partial.specs.Joined.{merged}
 use Rattle.druid_partial.specs.Partials.{earliest, kinds_of, HasNumbers, IsGroupFor}
-use Rattle.druid_partial_scan.specs.Rows.{passes_if, tells, is_asked}
+use Rattle.druid_partial_scan.specs.Rows.{passes_if, row_group, is_asked}
 use Rattle.druid_partial_scan.specs.Places.{places_of, sources_of, source_number}
 use Rattle.druid_filter.specs.Filters.{value_in}
 use Rattle.druid_partial_scan.specs.CodeFilters.{judge_if}
 use Rattle.druid_partial_scan.specs.Cells.{Column, Cell, Cells, AreColumns, HasNumber, number_from, cell_from}
 use Rattle.druid_partial_scan.specs.declared.code_filter.CodeFilter.{CodeFilter}
-use Rattle.druid_partial_scan.specs.declared.located.NumberSource.{NumberSource}
-use Rattle.druid_partial_scan.specs.declared.cells.Numbers.{Numbers}
+use Rattle.druid_partial_scan.specs.declared.field_sources.NumberSource.{NumberSource}
+use Rattle.druid_partial_scan.specs.declared.cells.NumberColumn.{NumberColumn}
 
 pub record Scan : Type 0 where
   pub query : Query
@@ -24,19 +24,19 @@ pub record Scan : Type 0 where
   pub columns : List Column
 
 -- the numbers of that source, of each row
-pub record AreFrom (segment : Segment) (source : NumberSource) (numbers : Numbers) : Type 0 where
+pub record AreFrom (segment : Segment) (source : NumberSource) (numbers : NumberColumn) : Type 0 where
   pub has : (row : ℕ) → row < length segment.rows → HasNumber row numbers
   pub same : (row : ℕ) → row < length segment.rows → number_from row numbers ≡ source_number (row_at segment row) source
 
 -- one for each source
-abbrev pub AreNumbers : Segment → List NumberSource → List Numbers → Type 0
+abbrev pub AreNumbers : Segment → List NumberSource → List NumberColumn → Type 0
 AreNumbers segment [] [] = ⊤
 AreNumbers segment [] (n ∷ ns) = ⊥
 AreNumbers segment (s ∷ ss) [] = ⊥
 AreNumbers segment (s ∷ ss) (n ∷ ns) = AreFrom segment s n × AreNumbers segment ss ns
 
 -- where it looks
-pub record IsScan (query : Query) (segment : Segment) (times : List ℕ) (first : ℕ) (places : List (Option ℕ)) (columns : List Column) (numbers : List Numbers) (kinds : List AggregatorKind) (code_filter : Option CodeFilter) : Type 0 where
+pub record IsScan (query : Query) (segment : Segment) (times : List ℕ) (first : ℕ) (places : List (Option ℕ)) (columns : List Column) (numbers : List NumberColumn) (kinds : List AggregatorKind) (code_filter : Option CodeFilter) : Type 0 where
   pub words : HaveWords segment
   pub times_are : times ≡ map (λ row. row.time) segment.rows
   pub first_is : first ≡ earliest query.intervals
@@ -48,7 +48,7 @@ pub record IsScan (query : Query) (segment : Segment) (times : List ℕ) (first 
 
 -- what the row at a place tells
 abbrev pub counted_at : Scan → ℕ → Group
-counted_at scan row = tells scan.query scan.segment.fields (row_at scan.segment row)
+counted_at scan row = row_group scan.query scan.segment.fields (row_at scan.segment row)
 
 -- the bucket of the row at a place
 abbrev pub bucket_at : Scan → ℕ → ℕ
@@ -62,7 +62,7 @@ pub record AreCounted (query : Query) (rows groups : List Group) : Type 0 where
 
 -- what the rows before a place tell that are asked for
 abbrev pub counted_upto : Query → Segment → Extent → ℕ → List Group
-counted_upto query segment interval i = map (tells query segment.fields) (filter (is_asked query interval segment.fields) (take i segment.rows))
+counted_upto query segment interval i = map (row_group query segment.fields) (filter (is_asked query interval segment.fields) (take i segment.rows))
 
 -- these groups are the result over the rows before a place
 abbrev pub AreUpto : Scan → Extent → ℕ → List Group → Type 0

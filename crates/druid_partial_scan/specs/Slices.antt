@@ -15,7 +15,7 @@ use Rattle.druid_partial.specs.Groups.{Group, Key}
 use Rattle.druid_partial.specs.Partials.{earliest, kinds_of, HasNumbers}
 use Rattle.druid_partial_scan.specs.Places.{at_place, places_of}
 use Rattle.druid_partial_scan.specs.Cells.{Column, code_at, HasCode, join_into, Filled, Cells}
-use Rattle.druid_partial_scan.specs.Told.{Slice, told_by}
+use Rattle.druid_partial_scan.specs.SliceGroups.{Slice, slice_groups}
 use Rattle.druid_partial_scan.specs.Scans.{Scan, AreCounted, HasRoom}
 
 -- ---- values by codes of the query
@@ -130,4 +130,4 @@ CanTally query lists room =
 
 -- the groups of what slices tell, where there are any
 abbrev pub AreTallied : Query → List (Bor (List (Bor (List ℕ)))) → List Slice → Option (Cells Key) → Type 0
-AreTallied query lists slices found = IfSome found (IsTally query (texts_in lists) (flat_map (told_by query) slices))
+AreTallied query lists slices found = IfSome found (IsTally query (texts_in lists) (flat_map (slice_groups query) slices))

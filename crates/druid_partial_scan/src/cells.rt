@@ -11,7 +11,7 @@ use std::marker::Model;
 
 // The number that an aggregator takes of each row.
 #[derive(Drop)]
-pub(crate) enum Numbers<'a> {
+pub(crate) enum NumberColumn<'a> {
     // Each row is one.
     One,
     // There are none.
@@ -35,21 +35,21 @@ impl Model for Cell {
     ghost view = { λ a. record { row = a.row; numbers = a.numbers.items } };
 }
 
-pub(crate) fn number_at(numbers: &Numbers<'_>, row: usize) -> Option<i64>
+pub(crate) fn number_at(numbers: &NumberColumn<'_>, row: usize) -> Option<i64>
     requires { HasNumber row numbers.now }
     ensures { result ≡ number_from row numbers.now }
 {
     match numbers {
-        Numbers::One => Some(1),
-        Numbers::Null => None,
-        Numbers::Metric(numbers) => numbers.get(row),
+        NumberColumn::One => Some(1),
+        NumberColumn::Null => None,
+        NumberColumn::Metric(numbers) => numbers.get(row),
     }
 }
 
 // A row's numbers.
 pub(crate) fn numbers_at(
     alloc: Global,
-    columns: &[Numbers<'_>],
+    columns: &[NumberColumn<'_>],
     row: usize,
 ) -> Result<Vec<Option<i64>>, AllocError>
     requires { All (HasNumber row) columns.now }
@@ -65,7 +65,7 @@ pub(crate) fn numbers_at(
 // Joins a row's numbers to those that are there.
 pub(crate) fn join_row(
     kinds: &[AggregatorKind],
-    columns: &[Numbers<'_>],
+    columns: &[NumberColumn<'_>],
     row: usize,
     numbers: &mut [Option<i64>],
 )
@@ -84,7 +84,7 @@ pub(crate) fn join_row(
 
 impl Cell {
     // Joins a row to the group.
-    fn join(&mut self, kinds: &[AggregatorKind], columns: &[Numbers<'_>], row: usize)
+    fn join(&mut self, kinds: &[AggregatorKind], columns: &[NumberColumn<'_>], row: usize)
         requires { All (HasNumber row) columns.now }
         ensures { self.new ≡ with_row kinds.now row (map (number_from row) columns.now) (Some self.old) }
     {
@@ -107,7 +107,7 @@ pub(crate) type Sparse = BTreeMap<usize, Cell>;
 pub(crate) fn enter_row(
     alloc: Global,
     kinds: &[AggregatorKind],
-    columns: &[Numbers<'_>],
+    columns: &[NumberColumn<'_>],
     cells: &mut Sparse,
     cell: usize,
     row: usize,

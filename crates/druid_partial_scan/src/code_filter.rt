@@ -11,7 +11,7 @@ ghost use Rattle.druid_partial_scan.specs.Places.{place_in};
 ghost use Rattle.druid_partial_scan.specs.Rows.{passes_if};
 ghost use Rattle.druid_partial_scan.specs.CodeFilters.{code_is, code_among, holds, all_hold, any_holds, judge_if, value_of, IsCodeOf};
 
-use crate::located::place_of;
+use crate::field_sources::place_of;
 use druid_filter::Filter;
 use druid_query::Query;
 use druid_segment_rows::{Segment, Texts};

@@ -3,14 +3,14 @@ ghost use Rattle.std.specs.Prelude.{◌≡◌, ◌<◌, ◌+◌, ◌-◌, ◌≤
 ghost use Rattle.druid_partial_scan.specs.Cells.{number_from, HasNumber, join_into, joined_with, is_there, joined_cell, joined_cells};
 ghost use Rattle.druid_partial.specs.Joined.{join_numbers};
 
-use crate::cells::{Numbers, join_row, number_at};
+use crate::cells::{NumberColumn, join_row, number_at};
 use druid_partial::join_numbers;
 use druid_query::AggregatorKind;
 use std::alloc::{AllocError, Global};
 use std::marker::Model;
 
 // Writes a row's numbers.
-fn write_row(columns: &[Numbers<'_>], row: usize, numbers: &mut [Option<i64>])
+fn write_row(columns: &[NumberColumn<'_>], row: usize, numbers: &mut [Option<i64>])
     requires row { All (HasNumber row) columns.now }
     requires long { length columns.now ≡ length numbers.now }
     ensures { numbers.new ≡ map (number_from row) columns.now }
@@ -23,7 +23,7 @@ fn write_row(columns: &[Numbers<'_>], row: usize, numbers: &mut [Option<i64>])
 // Joins a row's numbers to those of a cell.
 fn join_at(
     kinds: &[AggregatorKind],
-    columns: &[Numbers<'_>],
+    columns: &[NumberColumn<'_>],
     row: usize,
     numbers: &mut [Option<i64>],
     from: usize,
@@ -40,7 +40,7 @@ fn join_at(
 
 // Writes a row's numbers for those of a cell.
 fn write_at(
-    columns: &[Numbers<'_>],
+    columns: &[NumberColumn<'_>],
     row: usize,
     numbers: &mut [Option<i64>],
     from: usize,
@@ -160,7 +160,7 @@ impl<K: Drop> Cells<K> {
     pub(crate) fn join(
         &mut self,
         kinds: &[AggregatorKind],
-        columns: &[Numbers<'_>],
+        columns: &[NumberColumn<'_>],
         cell: usize,
         row: usize,
     ) -> bool
@@ -181,7 +181,7 @@ impl<K: Drop> Cells<K> {
     }
 
     // Puts a group of one row into a cell.
-    pub(crate) fn put(&mut self, columns: &[Numbers<'_>], cell: usize, row: usize, kept: K)
+    pub(crate) fn put(&mut self, columns: &[NumberColumn<'_>], cell: usize, row: usize, kept: K)
         requires row { All (HasNumber row) columns.now }
         requires cell { cell < length self.now.groups }
         requires width { length columns.now ≡ self.now.width }

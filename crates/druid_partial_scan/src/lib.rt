@@ -4,18 +4,18 @@
 mod cells;
 mod code_filter;
 mod column;
-mod counting;
+mod field_sources;
 mod group_array;
 mod group_map;
 mod key;
 mod laws;
-mod located;
 mod parts;
+mod scan;
 mod slices;
 mod texts;
 
-pub use counting::{partial_of, partial_over};
 pub use laws::rows_are_counted_once;
 pub use parts::partial_on_threads;
+pub use scan::{partial_of, partial_over};
 pub use slices::partial_of_slices;
 pub use texts::Slice;

@@ -5,7 +5,7 @@ ghost use Rattle.druid_time.specs.declared.granularity.Granularity.TheVariants a
 ghost use Rattle.druid_partial.specs.Groups.{IsResult};
 ghost use Rattle.druid_partial.specs.Partials.{kinds_of, IsPartialFor};
 ghost use Rattle.druid_partial_scan.specs.Slices.{CanTally, AreTallied};
-ghost use Rattle.druid_partial_scan.specs.Told.{told_by};
+ghost use Rattle.druid_partial_scan.specs.SliceGroups.{slice_groups};
 
 use crate::group_array::Cells;
 use crate::key::Key;
@@ -73,7 +73,7 @@ fn partial_at_once<'a, R: Threads>(
 ) -> Result<Option<Partial>, AllocError>
     requires { query.now.granularity ≡ granularity.All }
     ensures result { IfOk result (λ found. IfSome found (λ partial.
-        IsResult (kinds_of query.now) (flat_map (told_by query.now) slices.now) partial.groups)) }
+        IsResult (kinds_of query.now) (flat_map (slice_groups query.now) slices.now) partial.groups)) }
     ensures of_query { IfOk result (λ found. IfSome found (IsPartialFor query.now)) }
 {
     let texts = texts_over(alloc, query, slices)?;
@@ -99,7 +99,7 @@ fn partial_in_parts<R: Threads>(
     threads: usize,
 ) -> Result<Partial, AllocError>
     ensures result { IfOk result (λ partial.
-        IsResult (kinds_of query.now) (flat_map (told_by query.now) slices.now) partial.groups) }
+        IsResult (kinds_of query.now) (flat_map (slice_groups query.now) slices.now) partial.groups) }
     ensures of_query { IfOk result (IsPartialFor query.now) }
 {
     if threads <= 1 {
@@ -110,11 +110,11 @@ fn partial_in_parts<R: Threads>(
     let (left, right) = join(
         rt,
         || -> Result<Partial, AllocError>
-            ensures { IfOk result (λ partial. IsResult (kinds_of query.entry.now) (flat_map (told_by query.entry.now) front.entry.now) partial.groups
+            ensures { IfOk result (λ partial. IsResult (kinds_of query.entry.now) (flat_map (slice_groups query.entry.now) front.entry.now) partial.groups
                 × IsPartialFor query.entry.now partial) }
         { partial_in_halves(alloc, query, front) },
         || -> Result<Partial, AllocError>
-            ensures { IfOk result (λ partial. IsResult (kinds_of query.entry.now) (flat_map (told_by query.entry.now) back.entry.now) partial.groups
+            ensures { IfOk result (λ partial. IsResult (kinds_of query.entry.now) (flat_map (slice_groups query.entry.now) back.entry.now) partial.groups
                 × IsPartialFor query.entry.now partial) }
         { partial_in_parts(rt, alloc, query, back, rest) },
     );
@@ -139,7 +139,7 @@ pub fn partial_on_threads<R: Threads>(
     threads: usize,
 ) -> Result<Partial, AllocError>
     ensures result { IfOk result (λ partial.
-        IsResult (kinds_of query.now) (flat_map (told_by query.now) slices.now) partial.groups) }
+        IsResult (kinds_of query.now) (flat_map (slice_groups query.now) slices.now) partial.groups) }
     ensures of_query { IfOk result (IsPartialFor query.now) }
 {
     if pays(query, slices) {

@@ -7,12 +7,12 @@ ghost use Rattle.druid_partial.specs.Groups.{AreWords, Group, IsResult};
 ghost use Rattle.druid_partial.specs.Partials.{kinds_of, IsPartial, IsPartialFor};
 ghost use Rattle.druid_partial_scan.specs.Scans.{HasRoom};
 ghost use Rattle.druid_partial_scan.specs.Slices.{texts_in, room_over, groups_held, present, IsRising, Adds, IsTally};
-ghost use Rattle.druid_partial_scan.specs.Told.{told_by};
+ghost use Rattle.druid_partial_scan.specs.SliceGroups.{slice_groups};
 
 use crate::code_filter::dimension_of;
-use crate::counting::{Scan, partial_over};
 use crate::group_array::Cells;
 use crate::key::Key;
+use crate::scan::{Scan, partial_over};
 use crate::texts::{Slice, are_rising, lists_of, room_over, texts_over};
 use druid_partial::{Group, Partial, kinds_of, merge};
 use druid_query::Query;
@@ -79,7 +79,7 @@ fn add_slice<'a>(
     requires small { room_over (texts_in lists.now) 1 < 2 ^ 64 }
     ensures room { IfOk result (λ done. IsTrue done → HasRoom query.now (room_over (texts_in lists.now) 1) cells.new) }
     ensures adds { IfOk result (λ done. IsTrue done
-        → Adds query.now (texts_in lists.now) (told_by query.now slice.now) (groups_held cells.old.groups) (groups_held cells.new.groups)) }
+        → Adds query.now (texts_in lists.now) (slice_groups query.now slice.now) (groups_held cells.old.groups) (groups_held cells.new.groups)) }
 {
     let Some(scan) = Scan::over(alloc, query, slice.0, lists)? else {
         return Ok(false);
@@ -103,7 +103,7 @@ fn add_slices<'a>(
     requires small { room_over (texts_in lists.now) 1 < 2 ^ 64 }
     ensures room { IfOk result (λ done. IsTrue done → HasRoom query.now (room_over (texts_in lists.now) 1) cells.new) }
     ensures adds { IfOk result (λ done. IsTrue done
-        → Adds query.now (texts_in lists.now) (flat_map (told_by query.now) slices.now) (groups_held cells.old.groups) (groups_held cells.new.groups)) }
+        → Adds query.now (texts_in lists.now) (flat_map (slice_groups query.now) slices.now) (groups_held cells.old.groups) (groups_held cells.new.groups)) }
 {
     for slice in slices {
         let done = add_slice(alloc, query, slice, lists, cells)?;
@@ -142,7 +142,7 @@ pub(crate) fn tally<'a>(
     requires long { length lists.now ≡ length query.now.dimensions }
     requires rising { All IsRising (texts_in lists.now) }
     requires room { room ≡ room_over (texts_in lists.now) 1 }
-    ensures { IfOk result (λ found. IfSome found (IsTally query.now (texts_in lists.now) (flat_map (told_by query.now) slices.now))) }
+    ensures { IfOk result (λ found. IfSome found (IsTally query.now (texts_in lists.now) (flat_map (slice_groups query.now) slices.now))) }
 {
     let mut cells = Cells::new(alloc, room, query.aggregations().len())?;
     let done = add_slices(alloc, query, slices, lists, &mut cells)?;
@@ -188,7 +188,7 @@ fn partial_at_once<'a>(
 ) -> Result<Option<Partial>, AllocError>
     requires { query.now.granularity ≡ granularity.All }
     ensures result { IfOk result (λ found. IfSome found (λ partial.
-        IsResult (kinds_of query.now) (flat_map (told_by query.now) slices.now) partial.groups)) }
+        IsResult (kinds_of query.now) (flat_map (slice_groups query.now) slices.now) partial.groups)) }
     ensures of_query { IfOk result (λ found. IfSome found (IsPartialFor query.now)) }
 {
     let texts = texts_over(alloc, query, slices)?;
@@ -205,7 +205,7 @@ fn partial_at_once<'a>(
 
 fn partial_of_slice(alloc: Global, query: &Query, slice: &Slice<'_>) -> Result<Partial, AllocError>
     ensures result { IfOk result (λ partial.
-        IsResult (kinds_of query.now) (told_by query.now slice.now) partial.groups) }
+        IsResult (kinds_of query.now) (slice_groups query.now slice.now) partial.groups) }
     ensures of_query { IfOk result (IsPartialFor query.now) }
 {
     partial_over(alloc, query, slice.0, &slice.1)
@@ -219,7 +219,7 @@ pub(crate) fn partial_in_halves(
     slices: &[Slice<'_>],
 ) -> Result<Partial, AllocError>
     ensures result { IfOk result (λ partial.
-        IsResult (kinds_of query.now) (flat_map (told_by query.now) slices.now) partial.groups) }
+        IsResult (kinds_of query.now) (flat_map (slice_groups query.now) slices.now) partial.groups) }
     ensures of_query { IfOk result (IsPartialFor query.now) }
 {
     if slices.is_empty() {
@@ -252,7 +252,7 @@ pub fn partial_of_slices(
     slices: &[Slice<'_>],
 ) -> Result<Partial, AllocError>
     ensures result { IfOk result (λ partial.
-        IsResult (kinds_of query.now) (flat_map (told_by query.now) slices.now) partial.groups) }
+        IsResult (kinds_of query.now) (flat_map (slice_groups query.now) slices.now) partial.groups) }
     ensures of_query { IfOk result (IsPartialFor query.now) }
 {
     if pays(query, slices) {

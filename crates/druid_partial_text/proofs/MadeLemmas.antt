@@ -25,9 +25,9 @@ use Rattle.druid_base.proofs.EachLemmas.{with_front, each_of_more, each_of_last,
 use Rattle.druid_partial.specs.Groups.{Key, Group, key_of, key_cmp, InOrder}
 use Rattle.druid_partial.specs.Orders.{key_cmp-total}
 use Rattle.druid_partial.specs.Partials.{IsPartial, IsGroupFor, IsPartialFor, kinds_of}
-use Rattle.druid_partial_text.specs.Read.{number_or_null, Parts, parts_at, group_of, group_at, Lists, TellsGroups}
+use Rattle.druid_partial_text.specs.Read.{number_or_null, Parts, parts_at, group_of, group_at, Lists, ReportsGroups}
 use Rattle.druid_partial_text.specs.Borrowed.{parts_borrowed, HasWords, AreRows, IsBefore}
-use Rattle.druid_partial_text.specs.declared.reading.Borrowed.{Borrowed}
+use Rattle.druid_partial_text.specs.declared.partial_reader.Borrowed.{Borrowed}
 
 -- ---- copied item by item
 
@@ -207,21 +207,21 @@ is_list (object ms) items is = absurd (cc)
 pub rows_read : (q : Query) (items : Items) → AreRows q items → IsSome (each_of group_at items)
 rows_read q items rows = subst (λ (o : Option (List Group)). IsSome o) (sym rows.1) refl
 
-pub no_rows : (q : Query) (d : Data) → ((rows : List Group) → Lists q d rows → ⊥) → (groups : List Group) → TellsGroups q d groups → ⊥
+pub no_rows : (q : Query) (d : Data) → ((rows : List Group) → Lists q d rows → ⊥) → (groups : List Group) → ReportsGroups q d groups → ⊥
 no_rows q d none groups h = none h.rows h.listed
 
 pub rows_listed : (q : Query) (d : Data) (items : Items) → d ≡ array items → AreRows q items → (rows : List Group) × Lists q d rows
 rows_listed q d items is rows =
     subst (λ (e : Data). (rows : List Group) × Lists q e rows) (sym is) (rows.0, record { read = rows.1; each = rows.2 })
 
-pub not_reported : (q : Query) (d : Data) (items : Items) → d ≡ array items → ((groups : List Group) → TellsGroups q (array items) groups → ⊥) → (groups : List Group) → TellsGroups q d groups → ⊥
-not_reported q d items is none groups h = none groups (subst (λ (e : Data). TellsGroups q e groups) is h)
+pub not_reported : (q : Query) (d : Data) (items : Items) → d ≡ array items → ((groups : List Group) → ReportsGroups q (array items) groups → ⊥) → (groups : List Group) → ReportsGroups q d groups → ⊥
+not_reported q d items is none groups h = none groups (subst (λ (e : Data). ReportsGroups q e groups) is h)
 
-pub is_reported : (q : Query) (d : Data) (items : Items) (groups : List Group) → d ≡ array items → TellsGroups q (array items) groups → TellsGroups q d groups
-is_reported q d items groups is reported = subst (λ (e : Data). TellsGroups q e groups) (sym is) reported
+pub is_reported : (q : Query) (d : Data) (items : Items) (groups : List Group) → d ≡ array items → ReportsGroups q (array items) groups → ReportsGroups q d groups
+is_reported q d items groups is reported = subst (λ (e : Data). ReportsGroups q e groups) (sym is) reported
 
 pub doubled : (q : Query) (items : Items) (made : List Group) → each_of group_at items ≡ Some made
-    → ((rows : List Group) → IsPermutation made rows → InOrder rows → ⊥) → (groups : List Group) → TellsGroups q (array items) groups → ⊥
+    → ((rows : List Group) → IsPermutation made rows → InOrder rows → ⊥) → (groups : List Group) → ReportsGroups q (array items) groups → ⊥
 doubled q items made read none groups h =
     let same : made ≡ h.rows = same_Some made h.rows (sym read ∙ h.listed.read) in
     none groups (subst (λ (rows : List Group). IsPermutation rows groups) (sym same) h.same) h.ordered
@@ -230,7 +230,7 @@ each_for : (q : Query) (items : Items) (made : List Group) → AreRows q items �
 each_for q items made rows read = subst (All (IsGroupFor q)) (same_Some rows.0 made (sym rows.1 ∙ read)) rows.2
 
 pub reported : (q : Query) (items : Items) (made groups : List Group) → AreRows q items → each_of group_at items ≡ Some made → IsPermutation made groups → InOrder groups
-    → TellsGroups q (array items) groups
+    → ReportsGroups q (array items) groups
 reported q items made groups rows read moved ordered = record {
   rows = made;
   listed = record { read = read; each = each_for q items made rows read };

@@ -18,11 +18,11 @@ use Rattle.druid_base.proofs.EachLemmas.{all_reads}
 use Rattle.druid_query.specs.Asked.{Asked, asked_at}
 use Rattle.druid_query.specs.SubQuery.{SubQuery}
 use Rattle.druid_partial.specs.Groups.{Group}
-use Rattle.druid_partial_text.specs.Read.{Lists, TellsGroups}
+use Rattle.druid_partial_text.specs.Read.{Lists, ReportsGroups}
 use Rattle.druid_partial_text.specs.Borrowed.{AreRows}
 use Rattle.druid_query.specs.PieceOrder.{piece_cmp, piece_cmp-total, piece_cmp-ties, same_asked-true}
-use Rattle.druid_partial_text.specs.Answers.{WereAsked, ListsAnswer, TellsAnswer}
-use Rattle.druid_partial_text.specs.Missed.{AreMissed, AreLists, TellBoth}
+use Rattle.druid_partial_text.specs.Answers.{WereAsked, ListsAnswer, ReportsAnswer}
+use Rattle.druid_partial_text.specs.Missed.{AreMissed, AreLists, BothReport}
 use Rattle.druid_partial_text.proofs.MadeLemmas.{Made, more, ends, some_reads}
 
 -- ---- whether pieces were asked for
@@ -146,10 +146,10 @@ lists_read sub d rows vs rs is reads found list each = record {
 
 -- ---- what they tell
 
-pub none_missed : (sub : SubQuery) (ds rs : Items) → ((missing : List Asked) → AreMissed sub ds missing → ⊥) → (pieces : List Asked) (groups : List Group) → TellBoth sub ds rs pieces groups → ⊥
+pub none_missed : (sub : SubQuery) (ds rs : Items) → ((missing : List Asked) → AreMissed sub ds missing → ⊥) → (pieces : List Asked) (groups : List Group) → BothReport sub ds rs pieces groups → ⊥
 none_missed sub ds rs none pieces groups both = none pieces both.0
 
-pub none_reported : (sub : SubQuery) (ds rs : Items) → ((groups : List Group) → TellsGroups sub.query (array rs) groups → ⊥) → (pieces : List Asked) (groups : List Group) → TellBoth sub ds rs pieces groups → ⊥
+pub none_reported : (sub : SubQuery) (ds rs : Items) → ((groups : List Group) → ReportsGroups sub.query (array rs) groups → ⊥) → (pieces : List Asked) (groups : List Group) → BothReport sub ds rs pieces groups → ⊥
 none_reported sub ds rs none pieces groups both = none groups both.1
 
 -- ---- the whole
@@ -170,18 +170,18 @@ lists_answer sub d ds rs l =
       listed = record { read = l.each.1; each = l.each.2 };
     }
 
-pub no_lists : (sub : SubQuery) (d : Data) → (ListsAnswer sub d → ⊥) → (missing : List Asked) (groups : List Group) → TellsAnswer sub d missing groups → ⊥
+pub no_lists : (sub : SubQuery) (d : Data) → (ListsAnswer sub d → ⊥) → (missing : List Asked) (groups : List Group) → ReportsAnswer sub d missing groups → ⊥
 no_lists sub d none missing groups t =
     none (record { missing = missing; missed = t.missed; rows = t.rows; found = t.found; groups = t.reported.rows; listed = t.reported.listed })
 
-pub not_both : (sub : SubQuery) (d : Data) (ds rs : Items) → AreLists sub d ds rs → ((pieces : List Asked) (groups : List Group) → TellBoth sub ds rs pieces groups → ⊥)
-    → (missing : List Asked) (groups : List Group) → TellsAnswer sub d missing groups → ⊥
+pub not_both : (sub : SubQuery) (d : Data) (ds rs : Items) → AreLists sub d ds rs → ((pieces : List Asked) (groups : List Group) → BothReport sub ds rs pieces groups → ⊥)
+    → (missing : List Asked) (groups : List Group) → ReportsAnswer sub d missing groups → ⊥
 not_both sub d ds rs l none missing groups t =
     let same : array rs ≡ t.rows = same_Some (array rs) t.rows (sym l.found ∙ t.found) in
     none missing groups
-    ((ap (option_and_then (each_of (asked_at sub.query.source))) (sym l.missed) ∙ t.missed, t.were_asked), subst (λ (r : Data). TellsGroups sub.query r groups) (sym same) t.reported)
+    ((ap (option_and_then (each_of (asked_at sub.query.source))) (sym l.missed) ∙ t.missed, t.were_asked), subst (λ (r : Data). ReportsGroups sub.query r groups) (sym same) t.reported)
 
-pub both_reported : (sub : SubQuery) (d : Data) (ds rs : Items) (missing : List Asked) (groups : List Group) → AreLists sub d ds rs → TellBoth sub ds rs missing groups → TellsAnswer sub d missing groups
+pub both_reported : (sub : SubQuery) (d : Data) (ds rs : Items) (missing : List Asked) (groups : List Group) → AreLists sub d ds rs → BothReport sub ds rs missing groups → ReportsAnswer sub d missing groups
 both_reported sub d ds rs missing groups l both = record {
   missed = ap (option_and_then (each_of (asked_at sub.query.source))) l.missed ∙ both.0.0;
   were_asked = both.0.1;

@@ -11,11 +11,11 @@ use Rattle.druid_partial.specs.Groups.{Group}
 use Rattle.druid_partial_text.specs.Written.{with_values, with_numbers, label_data, timeseries_row, group_by_row}
 use Rattle.druid_partial_text.specs.Tokens.{tokens_of}
 use Rattle.druid_partial_text.specs.Named.{column_data, members_by}
-use Rattle.druid_partial_text.specs.declared.results.Column.{Column}
+use Rattle.druid_partial_text.specs.declared.results.ResultColumn.{ResultColumn}
 use Rattle.druid_partial_text.proofs.TokenLemmas.{two_joined}
 
 abbrev Entry : Type 0
-Entry = String Global × Column
+Entry = String Global × ResultColumn
 
 -- ---- a column more
 
@@ -24,11 +24,11 @@ chosen g Less a b c = refl
 chosen g Equal a b c = refl
 chosen g Greater a b c = refl
 
-inserted : (g : Group) (es : List Entry) (k : String Global) (c : Column) → members_by g (insert_entry string_cmp es k c) ≡ put (string_bytes k) (column_data g c) (members_by g es)
+inserted : (g : Group) (es : List Entry) (k : String Global) (c : ResultColumn) → members_by g (insert_entry string_cmp es k c) ≡ put (string_bytes k) (column_data g c) (members_by g es)
 inserted g [] k c = refl
 inserted g (e ∷ es) k c = chosen g (string_cmp k e.0) _ _ _ ∙ rw (inserted g es k c) refl
 
-pub column_set : (g : Group) (old new : List Entry) (name : List ℕ) (k : String Global) (c : Column) → string_bytes k ≡ name → new ≡ insert_entry string_cmp old k c
+pub column_set : (g : Group) (old new : List Entry) (name : List ℕ) (k : String Global) (c : ResultColumn) → string_bytes k ≡ name → new ≡ insert_entry string_cmp old k c
     → members_by g new ≡ put name (column_data g c) (members_by g old)
 column_set g old new name k c is set = ap (members_by g) set ∙ inserted g old k c ∙ ap (λ n. put n (column_data g c) (members_by g old)) is
 

@@ -18,7 +18,7 @@ use Rattle.druid_query_slice_text.proofs.BackLemmas.{asked_back}
 use Rattle.druid_time.specs.Extent.{IsExtent}
 use Rattle.druid_segment_id.specs.Identifier.{IsIdentifier}
 use Rattle.druid_base.proofs.EachLemmas.{each_back as listed_back}
-use Rattle.druid_partial_text.specs.Answers.{AreOfSource, WereAsked, TellsAnswer, answer_data}
+use Rattle.druid_partial_text.specs.Answers.{AreOfSource, WereAsked, ReportsAnswer, answer_data}
 use Rattle.druid_base.specs.Each.{each_of}
 use Rattle.druid_base.specs.Fields.{text_or_null}
 use Rattle.druid_query.specs.Written.{value_data}
@@ -26,7 +26,7 @@ use Rattle.druid_query.proofs.BackLemmas.{value_back}
 use Rattle.druid_partial.specs.Groups.{Group, InOrder}
 use Rattle.druid_partial.specs.Partials.{IsGroupFor}
 use Rattle.druid_partial_text.specs.Written.{IsHeld, number_data, group_data, partial_data}
-use Rattle.druid_partial_text.specs.Read.{number_or_null, parts_at, group_of, group_at, TellsGroups}
+use Rattle.druid_partial_text.specs.Read.{number_or_null, parts_at, group_of, group_at, ReportsGroups}
 use Rattle.druid_partial_text.proofs.TextBackLemmas.{bucket_fits}
 use Rattle.druid_partial_text.proofs.ReadLemmas.{instant_there}
 use Rattle.druid_partial.proofs.GroupLemmas.{one_list}
@@ -60,7 +60,7 @@ group_back g held =
     let numbers = each_back number_data number_or_null (λ x. IfSome x (FitsSigned w64)) number_back g.numbers held.words in
     ap (option_and_then group_of) (parts_back g held) ∙ rw (values, numbers) refl
 
-pub partial_back : (q : Query) (groups : List Group) → InOrder groups → All (IsGroupFor q) groups → All IsHeld groups → TellsGroups q (partial_data groups) groups
+pub partial_back : (q : Query) (groups : List Group) → InOrder groups → All (IsGroupFor q) groups → All IsHeld groups → ReportsGroups q (partial_data groups) groups
 partial_back q groups ordered each held = record {
   rows = groups;
   listed = record { read = each_back group_data group_at IsHeld group_back groups held; each = each };
@@ -68,7 +68,7 @@ partial_back q groups ordered each held = record {
   ordered = ordered;
 }
 
-pub one_reading : (q : Query) (d : Data) (a b : List Group) → TellsGroups q d a → TellsGroups q d b → a ≡ b
+pub one_reading : (q : Query) (d : Data) (a b : List Group) → ReportsGroups q d a → ReportsGroups q d b → a ≡ b
 one_reading q d a b first second =
     let rows = same_Some first.rows second.rows (sym first.listed.read ∙ second.listed.read) in
     let moved = subst (λ (rs : List Group). IsPermutation rs b) (sym rows) second.same in
@@ -81,7 +81,7 @@ asked_back_at : (source : List ℕ) (a : Asked) → a.0.source ≡ source → Is
 asked_back_at source a same id piece = subst (λ (s : List ℕ). asked_at s (asked_data a) ≡ Some a) same (asked_back a id piece)
 
 pub answer_back : (sub : SubQuery) (missing : List Asked) (groups : List Group) → WereAsked sub missing → AreOfSource sub.query.source missing → InOrder groups → All (IsGroupFor sub.query) groups
-    → All IsHeld groups → TellsAnswer sub (answer_data missing groups) missing groups
+    → All IsHeld groups → ReportsAnswer sub (answer_data missing groups) missing groups
 answer_back sub missing groups asked of ordered each held = record {
   missed = listed_back asked_data (asked_at sub.query.source) missing (λ a c. let o = of a c in asked_back_at sub.query.source a o.0 o.1 o.2);
   were_asked = asked;

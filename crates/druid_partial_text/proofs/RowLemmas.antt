@@ -19,7 +19,7 @@ use Rattle.druid_partial.specs.Groups.{Group}
 use Rattle.druid_partial.specs.Partials.{IsBucketOf, IsGroupFor, kinds_of}
 use Rattle.druid_partial_text.specs.Read.{number_or_null, group_of, group_at}
 use Rattle.druid_partial_text.specs.Borrowed.{parts_borrowed, IsNumberFor, AreNumbersFor, AreRows}
-use Rattle.druid_partial_text.specs.declared.reading.Borrowed.{Borrowed}
+use Rattle.druid_partial_text.specs.declared.partial_reader.Borrowed.{Borrowed}
 
 -- ---- one number
 
@@ -27,9 +27,9 @@ reported : (o : Option (Option ℤ)) (n : Option ℤ) (kind : AggregatorKind) �
 reported None n kind is counts = absurd (cc)
 reported (Some x) n kind is counts = λ e. subst IsSome (same_Some n x is) (counts e)
 
-untold : (o : Option (Option ℤ)) (kind : AggregatorKind) → None ≡ o → IsSomeAnd o (λ x. kind ≡ Count → IsSome x) → ⊥
-untold None kind is h = h
-untold (Some x) kind is h = cc
+unreported : (o : Option (Option ℤ)) (kind : AggregatorKind) → None ≡ o → IsSomeAnd o (λ x. kind ≡ Count → IsSome x) → ⊥
+unreported None kind is h = h
+unreported (Some x) kind is h = cc
 
 counted : (o : Option (Option ℤ)) (kind : AggregatorKind) → Some None ≡ o → IsSomeAnd o (λ x. kind ≡ Count → IsSome x) → kind ≢ Count
 counted None kind is h e = cc
@@ -46,7 +46,7 @@ pub null_counted : (kind : AggregatorKind) (d : Data) → Some None ≡ number_o
 null_counted kind d is h = counted (number_or_null d) kind is h
 
 pub none_reported : (kind : AggregatorKind) (d : Data) → None ≡ number_or_null d → IsNumberFor kind d → ⊥
-none_reported kind d is h = untold (number_or_null d) kind is h
+none_reported kind d is h = unreported (number_or_null d) kind is h
 
 -- ---- a number for each aggregator
 

@@ -14,7 +14,7 @@ use Rattle.druid_partial.specs.Answer.{Answer}
 use Rattle.druid_partial.specs.Groups.{Group}
 use Rattle.druid_partial.specs.Partials.{kinds_of}
 use Rattle.druid_partial_text.specs.Written.{partial_data, result_data}
-use Rattle.druid_partial_text.specs.Read.{Lists, TellsGroups}
+use Rattle.druid_partial_text.specs.Read.{Lists, ReportsGroups}
 use Rattle.druid_partial_text.specs.declared.fault.PartialFault.{PartialFault}
 use Rattle.druid_partial_text.specs.declared.fault.PartialFault.TheVariants as faults
 
@@ -50,12 +50,12 @@ abbrev pub WereAsked : SubQuery → List Asked → Type 0
 WereAsked sub missing = (a : Asked) → Contains missing a → Contains sub.asked a
 
 -- a value tells these groups for the query, and lists these pieces of those that were asked for as missing
-pub record TellsAnswer (sub : SubQuery) (d : Data) (missing : List Asked) (groups : List Group) : Type 0 where
+pub record ReportsAnswer (sub : SubQuery) (d : Data) (missing : List Asked) (groups : List Group) : Type 0 where
   pub missed : missing_at sub.query.source d ≡ Some missing
   pub were_asked : WereAsked sub missing
   pub rows : Data
   pub found : get (codes "rows") d ≡ Some rows
-  pub reported : TellsGroups sub.query rows groups
+  pub reported : ReportsGroups sub.query rows groups
 
 -- a value lists pieces as missing, and rows of the query
 pub record ListsAnswer (sub : SubQuery) (d : Data) : Type 0 where
@@ -69,8 +69,8 @@ pub record ListsAnswer (sub : SubQuery) (d : Data) : Type 0 where
 -- what reading an answer out of JSON answers. Whether each piece was asked for, and whether a key stands twice, shows once
 -- pieces and groups are in order, and to put them in order may run out of memory
 abbrev pub IsAnswer : SubQuery → Data → Result Answer PartialFault → Type 0
-IsAnswer sub d (Ok a) = (a.partial.kinds ≡ kinds_of sub.query) × TellsAnswer sub d a.missing a.partial.groups
-IsAnswer sub d (Err faults.Shape) = (missing : List Asked) (groups : List Group) → TellsAnswer sub d missing groups → ⊥
+IsAnswer sub d (Ok a) = (a.partial.kinds ≡ kinds_of sub.query) × ReportsAnswer sub d a.missing a.partial.groups
+IsAnswer sub d (Err faults.Shape) = (missing : List Asked) (groups : List Group) → ReportsAnswer sub d missing groups → ⊥
 IsAnswer sub d (Err faults.Memory) = ListsAnswer sub d
 IsAnswer sub d (Err faults.NotJson) = ⊥
 

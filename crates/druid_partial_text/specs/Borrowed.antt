@@ -11,8 +11,8 @@ use Rattle.druid_query.specs.declared.aggregator.AggregatorKind.TheVariants.{Cou
 use Rattle.druid_partial.specs.Groups.{Group, key_cmp, AreWords}
 use Rattle.druid_partial.specs.Partials.{IsGroupFor}
 use Rattle.druid_partial_text.specs.Read as spec
-use Rattle.druid_partial_text.specs.declared.reading.Three.{Three}
-use Rattle.druid_partial_text.specs.declared.reading.Borrowed.{Borrowed}
+use Rattle.druid_partial_text.specs.declared.partial_reader.Three.{Three}
+use Rattle.druid_partial_text.specs.declared.partial_reader.Borrowed.{Borrowed}
 
 abbrev pub three_borrowed : Three → spec.Three
 three_borrowed a = record { first = view a.first.now; second = view a.second.now; third = view a.third.now }

@@ -7,7 +7,7 @@ use Rattle.druid_base.specs.Each.{each_of}
 use Rattle.druid_query.specs.Asked.{Asked, asked_at}
 use Rattle.druid_query.specs.SubQuery.{SubQuery}
 use Rattle.druid_partial.specs.Groups.{Group}
-use Rattle.druid_partial_text.specs.Read.{TellsGroups}
+use Rattle.druid_partial_text.specs.Read.{ReportsGroups}
 use Rattle.druid_partial_text.specs.Borrowed.{AreRows}
 use Rattle.druid_partial_text.specs.Answers.{WereAsked}
 
@@ -23,8 +23,8 @@ pub record AreLists (sub : SubQuery) (d : Data) (missing rows : Items) : Type 0 
   pub each : AreRows sub.query rows
 
 -- these lists tell these pieces, all of which were asked for, and these groups
-abbrev pub TellBoth : SubQuery → Items → Items → List Asked → List Group → Type 0
-TellBoth sub missing rows pieces groups = AreMissed sub missing pieces × TellsGroups sub.query (array rows) groups
+abbrev pub BothReport : SubQuery → Items → Items → List Asked → List Group → Type 0
+BothReport sub missing rows pieces groups = AreMissed sub missing pieces × ReportsGroups sub.query (array rows) groups
 
 -- the segment of a piece has an identifier
 pub record IsOfSegment (a : Asked) : Type 0 where

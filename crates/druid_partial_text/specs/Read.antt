@@ -80,7 +80,7 @@ pub record Lists (query : Query) (d : Data) (rows : List Group) : Type 0 where
   pub each : All (IsGroupFor query) rows
 
 -- a value tells these groups: it lists them in any order, and no key twice
-pub record TellsGroups (query : Query) (d : Data) (groups : List Group) : Type 0 where
+pub record ReportsGroups (query : Query) (d : Data) (groups : List Group) : Type 0 where
   pub rows : List Group
   pub listed : Lists query d rows
   pub same : IsPermutation rows groups
@@ -89,7 +89,7 @@ pub record TellsGroups (query : Query) (d : Data) (groups : List Group) : Type 0
 -- what reading a partial of a query answers: its groups; P2 where the value tells none. Whether a key stands twice shows
 -- once the groups are in order, and they have to be copied for that
 abbrev pub IsRead : Query → Data → Result Partial PartialFault → Type 0
-IsRead query d (Ok p) = (p.kinds ≡ kinds_of query) × TellsGroups query d p.groups
-IsRead query d (Err faults.Shape) = (groups : List Group) → TellsGroups query d groups → ⊥
+IsRead query d (Ok p) = (p.kinds ≡ kinds_of query) × ReportsGroups query d p.groups
+IsRead query d (Err faults.Shape) = (groups : List Group) → ReportsGroups query d groups → ⊥
 IsRead query d (Err faults.Memory) = (rows : List Group) × Lists query d rows
 IsRead query d (Err faults.NotJson) = ⊥

@@ -7,10 +7,10 @@ ghost use Rattle.druid_partial.specs.Groups.{Group, number_at};
 ghost use Rattle.druid_partial.specs.Partials.{IsPartialFor, IsGroupFor};
 ghost use Rattle.druid_partial_text.specs.Written.{with_values, with_numbers, label_data, timeseries_row, group_by_row, row_data, result_data, result_text};
 ghost use Rattle.druid_partial_text.specs.Tokens.{tokens_of};
-ghost use Rattle.druid_partial_text.specs.Named.{column_data, members_by, NamesValues, NamesNumbers, TellsBy, row_by, rows_by};
+ghost use Rattle.druid_partial_text.specs.Named.{column_data, members_by, NamesValues, NamesNumbers, ReportsBy, row_by, rows_by};
 
+use crate::partial_writer::FIRST_ROOM;
 use crate::tokens::{push_number, push_value, text_of};
-use crate::writing::FIRST_ROOM;
 use druid_partial::{Group, Partial};
 use druid_query::{Aggregator, Dimension, Query, QueryType};
 use druid_time::Instant;
@@ -20,20 +20,20 @@ use std::collections::BTreeMap;
 
 // What stands at a name in each row of a result: the value or the number at that place of a group.
 #[derive(Drop)]
-pub(crate) enum Column {
+pub(crate) enum ResultColumn {
     Value(usize),
     Number(usize),
 }
 
 // What stands at each name, by name.
-pub(crate) type Columns = BTreeMap<String, Column>;
+pub(crate) type ResultColumns = BTreeMap<String, ResultColumn>;
 
 // Sets what stands at a name.
 fn set_column(
     alloc: Global,
-    columns: &mut Columns,
+    columns: &mut ResultColumns,
     name: &str,
-    column: Column,
+    column: ResultColumn,
 ) -> Result<(), AllocError>
     ensures { OnOk result ((g : Group) → members_by g columns.new.entries ≡ put name.now (column_data g column) (members_by g columns.old.entries)) }
 {
@@ -45,7 +45,7 @@ fn set_column(
 // Sets the values of the dimensions at their output names.
 fn set_values(
     alloc: Global,
-    columns: &mut Columns,
+    columns: &mut ResultColumns,
     dimensions: &[Dimension],
 ) -> Result<(), AllocError>
     ensures { OnOk result (NamesValues dimensions.now columns.old.entries columns.new.entries) }
@@ -55,7 +55,7 @@ fn set_values(
             alloc,
             columns,
             dimensions[i].output_name(),
-            Column::Value(i),
+            ResultColumn::Value(i),
         )?;
     }
     Ok(())
@@ -64,20 +64,25 @@ fn set_values(
 // Sets the numbers of the aggregators at their names.
 fn set_numbers(
     alloc: Global,
-    columns: &mut Columns,
+    columns: &mut ResultColumns,
     aggregations: &[Aggregator],
 ) -> Result<(), AllocError>
     ensures { OnOk result (NamesNumbers aggregations.now columns.old.entries columns.new.entries) }
 {
     for i in 0..aggregations.len() {
-        set_column(alloc, columns, aggregations[i].name(), Column::Number(i))?;
+        set_column(
+            alloc,
+            columns,
+            aggregations[i].name(),
+            ResultColumn::Number(i),
+        )?;
     }
     Ok(())
 }
 
 // What stands at each name in a row of a result of the query.
-pub(crate) fn columns_of(alloc: Global, query: &Query) -> Result<Columns, AllocError>
-    ensures { IfOk result (λ columns. TellsBy query.now columns.entries) }
+pub(crate) fn columns_of(alloc: Global, query: &Query) -> Result<ResultColumns, AllocError>
+    ensures { IfOk result (λ columns. ReportsBy query.now columns.entries) }
 {
     let mut columns = BTreeMap::new(alloc);
     set_values(alloc, &mut columns, query.dimensions())?;
@@ -96,22 +101,22 @@ fn number_in(group: &Group, place: usize) -> Option<i64>
 }
 
 // Writes what a column tells of a group; null where the group has no such place.
-fn push_column(out: &mut Writer, column: &Column, group: &Group) -> Result<(), AllocError>
+fn push_column(out: &mut Writer, column: &ResultColumn, group: &Group) -> Result<(), AllocError>
     ensures ok { OnOk result (out.new.tokens ≡ out.old.tokens ++ tokens_of (column_data group.now column.now)) }
     ensures before { out.new.before ≡ out.old.before }
 {
     match column {
-        Column::Value(place) => match group.values().get(*place) {
+        ResultColumn::Value(place) => match group.values().get(*place) {
             Some(value) => push_value(out, value),
             None => out.null(),
         },
-        Column::Number(place) => push_number(out, number_in(group, *place)),
+        ResultColumn::Number(place) => push_number(out, number_in(group, *place)),
     }
 }
 
 // Writes what a result tells of a group, by name.
 #[tactic(auto, using(crate::proofs::NamedLemmas::column_next, crate::proofs::NamedLemmas::columns_first, crate::proofs::NamedLemmas::columns_last))]
-fn push_columns(out: &mut Writer, columns: &Columns, group: &Group) -> Result<(), AllocError>
+fn push_columns(out: &mut Writer, columns: &ResultColumns, group: &Group) -> Result<(), AllocError>
     ensures ok { OnOk result (out.new.tokens ≡ out.old.tokens ++ tokens_of (object (members_by group.now columns.now.entries))) }
     ensures before { out.new.before ≡ out.old.before }
 {
@@ -134,7 +139,11 @@ fn push_label(out: &mut Writer, bucket: Instant) -> Result<(), AllocError>
 }
 
 // Writes a row of a `timeseries`.
-fn push_timeseries(out: &mut Writer, columns: &Columns, group: &Group) -> Result<(), AllocError>
+fn push_timeseries(
+    out: &mut Writer,
+    columns: &ResultColumns,
+    group: &Group,
+) -> Result<(), AllocError>
     ensures ok { OnOk result (out.new.tokens ≡ out.old.tokens
         ++ tokens_of (timeseries_row (object (members_by group.now columns.now.entries)) group.now.key.bucket)) }
     ensures before { out.new.before ≡ out.old.before }
@@ -148,7 +157,7 @@ fn push_timeseries(out: &mut Writer, columns: &Columns, group: &Group) -> Result
 }
 
 // Writes a row of a `groupBy`.
-fn push_group_by(out: &mut Writer, columns: &Columns, group: &Group) -> Result<(), AllocError>
+fn push_group_by(out: &mut Writer, columns: &ResultColumns, group: &Group) -> Result<(), AllocError>
     ensures ok { OnOk result (out.new.tokens ≡ out.old.tokens
         ++ tokens_of (group_by_row (object (members_by group.now columns.now.entries)) group.now.key.bucket)) }
     ensures before { out.new.before ≡ out.old.before }
@@ -167,7 +176,7 @@ fn push_group_by(out: &mut Writer, columns: &Columns, group: &Group) -> Result<(
 fn push_row(
     out: &mut Writer,
     kind: QueryType,
-    columns: &Columns,
+    columns: &ResultColumns,
     group: &Group,
 ) -> Result<(), AllocError>
     ensures ok { OnOk result (out.new.tokens ≡ out.old.tokens ++ tokens_of (row_by kind columns.now.entries group.now)) }
@@ -184,7 +193,7 @@ fn push_row(
 pub(crate) fn push_rows(
     out: &mut Writer,
     kind: QueryType,
-    columns: &Columns,
+    columns: &ResultColumns,
     groups: &[Group],
 ) -> Result<(), AllocError>
     ensures ok { OnOk result (out.new.tokens ≡ out.old.tokens ++ tokens_of (rows_by kind columns.now.entries groups.now)) }

@@ -5,10 +5,10 @@ ghost use Rattle.druid_partial_text.specs.Named.{rows_by};
 ghost use Rattle.druid_partial.specs.Partials.{IsPartialFor};
 ghost use Rattle.druid_partial_text.specs.Tokens.{tokens_of};
 
-use crate::answer_writing::push_pieces;
-use crate::results::{Columns, columns_of, push_rows};
+use crate::answer_writer::push_pieces;
+use crate::partial_writer::FIRST_ROOM;
+use crate::results::{ResultColumns, columns_of, push_rows};
 use crate::tokens::text_of;
-use crate::writing::FIRST_ROOM;
 use druid_partial::Partial;
 use druid_query::{Query, QueryType, SegmentSlice};
 use json::Writer;
@@ -18,7 +18,7 @@ fn push_shortfall(
     alloc: Global,
     out: &mut Writer,
     kind: QueryType,
-    columns: &Columns,
+    columns: &ResultColumns,
     missing: &[SegmentSlice],
     partial: &Partial,
 ) -> Result<(), AllocError>

@@ -6,13 +6,13 @@
 mod config_file;
 mod environment;
 mod exit;
-mod logging;
+mod log;
 mod program;
 mod report;
 mod words;
 
 pub use environment::Environment;
 pub use exit::{Ending, Exit};
-pub use logging::start_log;
+pub use log::start_log;
 pub use program::{run, serve_config};
 pub use words::{asks_for_explanation, asks_for_replay, asks_for_serve};

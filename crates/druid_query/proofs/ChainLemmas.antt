@@ -8,7 +8,7 @@ use Rattle.druid_time.specs.declared.granularity.Granularity.{Granularity}
 use Rattle.druid_filter.specs.Filters.{Condition}
 use Rattle.druid_query.specs.Query.{Dimension, Aggregator, result_names}
 use Rattle.druid_base.specs.Distinct.{are_distinct}
-use Rattle.druid_query.specs.Refusal.{Refusal, unknown_type, doubled_name, or_refuse, when, Tells, Checks, TellsAfter, ChecksAfter}
+use Rattle.druid_query.specs.Refusal.{Refusal, unknown_type, doubled_name, or_refuse, when, Reports, Checks, ReportsAfter, ChecksAfter}
 use Rattle.druid_query.specs.Fields.{kind_at}
 use Rattle.druid_query.specs.Read.{source_at, granularity_at, filter_field, dimensions_at, aggregations_at, no_more_at}
 use Rattle.druid_query.specs.declared.fault.QueryFault.{QueryFault}
@@ -81,20 +81,20 @@ module _ {T S : Type 0} (r : Reading T S) (d : Data) (k : QueryType) (is : Some 
   at_aggregations a b c h j more = at_dimensions a b c h (λ s g t f. pass (dimensions_at k d) (λ ds. after_dimensions r d k s g t f ds) P j (λ ds _. more s g t f ds))
 
 module _ {T S : Type 0} (r : Reading T S) (d : Data) (k : QueryType) (is : Some k ≡ kind_at d) (e : QueryFault) (other : e ≡ faults.Memory → ⊥) where
-  pub no_source : Tells e (source_at d) → Tells e (parts_by r d)
-  no_source t = at_source r d k is (Tells e) (stop (source_at d) (λ s. after_source r d k s) e other t)
+  pub no_source : Reports e (source_at d) → Reports e (parts_by r d)
+  no_source t = at_source r d k is (Reports e) (stop (source_at d) (λ s. after_source r d k s) e other t)
 
-  pub no_granularity : IsOk (source_at d) → Tells e (granularity_at d) → Tells e (parts_by r d)
-  no_granularity a t = at_granularity r d k is (Tells e) a (λ s _. stop (granularity_at d) (λ g. after_granularity r d k s g) e other t)
+  pub no_granularity : IsOk (source_at d) → Reports e (granularity_at d) → Reports e (parts_by r d)
+  no_granularity a t = at_granularity r d k is (Reports e) a (λ s _. stop (granularity_at d) (λ g. after_granularity r d k s g) e other t)
 
-  pub no_times : IsOk (source_at d) → IsOk (granularity_at d) → ((s : List ℕ) → source_at d ≡ Ok s → Tells e (r.timed s d)) → Tells e (parts_by r d)
-  no_times a b t = at_timed r d k is (Tells e) a b (λ s g is. stop (r.timed s d) (λ t. after_timed r d k s g t) e other (t s is))
+  pub no_times : IsOk (source_at d) → IsOk (granularity_at d) → ((s : List ℕ) → source_at d ≡ Ok s → Reports e (r.timed s d)) → Reports e (parts_by r d)
+  no_times a b t = at_timed r d k is (Reports e) a b (λ s g is. stop (r.timed s d) (λ t. after_timed r d k s g t) e other (t s is))
 
-  pub no_filter : IsOk (source_at d) → IsOk (granularity_at d) → Timed r d → Tells e (filter_field d) → Tells e (parts_by r d)
-  no_filter a b c t = at_filter r d k is (Tells e) a b c (λ s g i. stop (filter_field d) (λ f. after_filter r d k s g i f) e other t)
+  pub no_filter : IsOk (source_at d) → IsOk (granularity_at d) → Timed r d → Reports e (filter_field d) → Reports e (parts_by r d)
+  no_filter a b c t = at_filter r d k is (Reports e) a b c (λ s g i. stop (filter_field d) (λ f. after_filter r d k s g i f) e other t)
 
-  pub no_dimensions : IsOk (source_at d) → IsOk (granularity_at d) → Timed r d → IsOk (filter_field d) → Tells e (dimensions_at k d) → Tells e (parts_by r d)
-  no_dimensions a b c h t = at_dimensions r d k is (Tells e) a b c h (λ s g i f. stop (dimensions_at k d) (λ ds. after_dimensions r d k s g i f ds) e other t)
+  pub no_dimensions : IsOk (source_at d) → IsOk (granularity_at d) → Timed r d → IsOk (filter_field d) → Reports e (dimensions_at k d) → Reports e (parts_by r d)
+  no_dimensions a b c h t = at_dimensions r d k is (Reports e) a b c h (λ s g i f. stop (dimensions_at k d) (λ ds. after_dimensions r d k s g i f ds) e other t)
 
 pub aggregations_last : {T S : Type 0} (r : Reading T S) (d : Data) (k : QueryType) (answer : Result ⊤ QueryFault) → Some k ≡ kind_at d → (answer ≡ Err faults.Memory → ⊥)
     → IsOk (source_at d) → IsOk (granularity_at d) → Timed r d → IsOk (filter_field d) → IsOk (dimensions_at k d) → Checks answer (aggregations_at d) → Checks answer (parts_by r d)
@@ -183,12 +183,12 @@ after_parts r d x = no_more_at d >>= λ _. after_more r x
 abbrev pub whole_by : {T S : Type 0} → Reading T S → Data → Result S Refusal
 whole_by r d = parts_by r d >>= λ x. after_parts r d x
 
-pub no_parts : {T S : Type 0} (r : Reading T S) (d : Data) (e : QueryFault) → (e ≡ faults.Memory → ⊥) → Tells e (parts_by r d) → Tells e (whole_by r d)
+pub no_parts : {T S : Type 0} (r : Reading T S) (d : Data) (e : QueryFault) → (e ≡ faults.Memory → ⊥) → Reports e (parts_by r d) → Reports e (whole_by r d)
 no_parts r d e other t = stop (parts_by r d) (λ x. after_parts r d x) e other t
 
-pub some_more : {T S : Type 0} (r : Reading T S) (d : Data) (e : QueryFault) → (e ≡ faults.Memory → ⊥) → IsOk (parts_by r d) → Tells e (no_more_at d) → Tells e (whole_by r d)
+pub some_more : {T S : Type 0} (r : Reading T S) (d : Data) (e : QueryFault) → (e ≡ faults.Memory → ⊥) → IsOk (parts_by r d) → Reports e (no_more_at d) → Reports e (whole_by r d)
 some_more r d e other a t =
-    pass (parts_by r d) (λ x. after_parts r d x) (Tells e) a (λ x _. stop (no_more_at d) (λ _. after_more r x) e other t)
+    pass (parts_by r d) (λ x. after_parts r d x) (Reports e) a (λ x _. stop (no_more_at d) (λ _. after_more r x) e other t)
 
 pub not_distinct : {T S : Type 0} (r : Reading T S) (d : Data) → IsOk (parts_by r d) → IsOk (no_more_at d) → ((x : S) → parts_by r d ≡ Ok x → false ≡ distinct_in r x) → whole_by r d ≡ Err doubled_name
 not_distinct r d a b twice =
@@ -266,7 +266,7 @@ module _ {T S : Type 0} (r : Reading T S) (d : Data) (read : Reads r d) where
 -- ---- out of memory
 
 -- another fault says the same
-pub to_after : {A B : Type 0} (before : Result B Refusal) (e : QueryFault) (read : Result A Refusal) → (e ≡ faults.Memory → ⊥) → Tells e read → TellsAfter before e read
+pub to_after : {A B : Type 0} (before : Result B Refusal) (e : QueryFault) (read : Result A Refusal) → (e ≡ faults.Memory → ⊥) → Reports e read → ReportsAfter before e read
 to_after before faults.NotJson read other t = t
 to_after before faults.UnknownType read other t = t
 to_after before (faults.Field key) read other t = t
@@ -277,7 +277,7 @@ to_after before faults.Memory read other t = absurd (other refl)
 
 -- one fault is carried on, and so is out of memory
 pub carried : {A B C D : Type 0} (old : Result B Refusal) (read : Result A Refusal) (new : Result D Refusal) (whole : Result C Refusal) (e : QueryFault)
-    → (IsOk old → IsOk new) → ((e ≡ faults.Memory → ⊥) → Tells e read → Tells e whole) → TellsAfter old e read → TellsAfter new e whole
+    → (IsOk old → IsOk new) → ((e ≡ faults.Memory → ⊥) → Reports e read → Reports e whole) → ReportsAfter old e read → ReportsAfter new e whole
 carried old read new whole faults.NotJson memory other t = other (λ h. cc) t
 carried old read new whole faults.UnknownType memory other t = other (λ h. cc) t
 carried old read new whole (faults.Field key) memory other t = other (λ h. cc) t

@@ -43,7 +43,7 @@ query_of_parts d k s g i f ds all ok is a b c h j l =
 
 -- ---- the parts of a query that reads
 
-pub record Parts (d : Data) (q : Query) : Type 0 where
+pub record QueryParts (d : Data) (q : Query) : Type 0 where
   pub kind : Some q.kind ≡ kind_at d
   pub source : source_at d ≡ Ok q.source
   pub granularity : granularity_at d ≡ Ok q.granularity
@@ -53,11 +53,11 @@ pub record Parts (d : Data) (q : Query) : Type 0 where
   pub aggregations : aggregations_at d ≡ Ok q.aggregations
   pub distinct : are_distinct (result_names q.dimensions q.aggregations) ≡ true
 
-pub parts_whole : (d : Data) (q : Query) → query_at d ≡ Ok q → Parts d q
+pub parts_whole : (d : Data) (q : Query) → query_at d ≡ Ok q → QueryParts d q
 parts_whole d q read =
     let whole = whole_bound queries d q (of_query d ∙ read) in
     let steps = steps_of queries d q whole.0 in
-    subst (Parts d) steps.made (record {
+    subst (QueryParts d) steps.made (record {
       kind = steps.kind_is;
       source = steps.source_is;
       granularity = steps.granularity_is;

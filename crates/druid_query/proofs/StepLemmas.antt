@@ -2,7 +2,7 @@
 use Rattle.std.proofs.Common.{◌≡◌, Result, Ok, Err, IsOk, refl, ap}
 use Rattle.std.specs.Bool.{⊤}
 use Rattle.druid_time.specs.Results.{◌>>=◌}
-use Rattle.druid_query.specs.Refusal.{Refusal, Tells, Checks}
+use Rattle.druid_query.specs.Refusal.{Refusal, Reports, Checks}
 use Rattle.druid_query.specs.declared.fault.QueryFault.{QueryFault}
 use Rattle.druid_query.specs.declared.fault.QueryFault.TheVariants as faults
 
@@ -11,7 +11,7 @@ refusal_of (Ok x) e = e
 refusal_of (Err y) e = y
 
 -- a step is refused
-pub stop : {A B : Type 0} (r : Result A Refusal) (f : A → Result B Refusal) (e : QueryFault) → (e ≡ faults.Memory → ⊥) → Tells e r → Tells e (r >>= f)
+pub stop : {A B : Type 0} (r : Result A Refusal) (f : A → Result B Refusal) (e : QueryFault) → (e ≡ faults.Memory → ⊥) → Reports e r → Reports e (r >>= f)
 stop (Ok x) f faults.NotJson other h = absurd h
 stop (Ok x) f faults.UnknownType other h = absurd (cc)
 stop (Ok x) f (faults.Field key) other h = absurd (cc)

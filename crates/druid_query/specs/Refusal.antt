@@ -25,36 +25,36 @@ abbrev pub allow : Bool → Refusal → Result ⊤ Refusal
 allow test e = if test then Ok tt else Err e
 
 -- the fault that tells a refusal
-abbrev pub Tells : {A : Type 0} → QueryFault → Result A Refusal → Type 0
-Tells faults.NotJson read = ⊥
-Tells faults.UnknownType read = read ≡ Err unknown_type
-Tells (faults.Field key) read = read ≡ Err (bad_field key.now)
-Tells faults.BadInterval read = read ≡ Err bad_interval
-Tells faults.LimitPassed read = read ≡ Err limit_passed
-Tells faults.DoubledName read = read ≡ Err doubled_name
+abbrev pub Reports : {A : Type 0} → QueryFault → Result A Refusal → Type 0
+Reports faults.NotJson read = ⊥
+Reports faults.UnknownType read = read ≡ Err unknown_type
+Reports (faults.Field key) read = read ≡ Err (bad_field key.now)
+Reports faults.BadInterval read = read ≡ Err bad_interval
+Reports faults.LimitPassed read = read ≡ Err limit_passed
+Reports faults.DoubledName read = read ≡ Err doubled_name
 -- out of memory only where nothing else is refused
-Tells faults.Memory read = IsOk read
+Reports faults.Memory read = IsOk read
 
 -- what a function answered is what reading gives, unless memory was refused
 abbrev pub Gives : {A : Type 0} → Result A QueryFault → Result A Refusal → Type 0
 Gives (Ok x) read = read ≡ Ok x
-Gives (Err e) read = Tells e read
+Gives (Err e) read = Reports e read
 
 -- the same of a function that only looks whether it reads
 abbrev pub Checks : {A : Type 0} → Result ⊤ QueryFault → Result A Refusal → Type 0
 Checks (Ok _) read = IsOk read
-Checks (Err e) read = Tells e read
+Checks (Err e) read = Reports e read
 
 -- the same where a search allocates on the way: then out of memory says only that nothing before the search is to be
 -- refused
-abbrev pub TellsAfter : {A B : Type 0} → Result B Refusal → QueryFault → Result A Refusal → Type 0
-TellsAfter before faults.Memory read = IsOk before
-TellsAfter before fault read = Tells fault read
+abbrev pub ReportsAfter : {A B : Type 0} → Result B Refusal → QueryFault → Result A Refusal → Type 0
+ReportsAfter before faults.Memory read = IsOk before
+ReportsAfter before fault read = Reports fault read
 
 abbrev pub GivesAfter : {A B : Type 0} → Result B Refusal → Result A QueryFault → Result A Refusal → Type 0
 GivesAfter before (Ok x) read = read ≡ Ok x
-GivesAfter before (Err e) read = TellsAfter before e read
+GivesAfter before (Err e) read = ReportsAfter before e read
 
 abbrev pub ChecksAfter : {A B : Type 0} → Result B Refusal → Result ⊤ QueryFault → Result A Refusal → Type 0
 ChecksAfter before (Ok _) read = IsOk read
-ChecksAfter before (Err e) read = TellsAfter before e read
+ChecksAfter before (Err e) read = ReportsAfter before e read

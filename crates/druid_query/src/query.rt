@@ -15,7 +15,7 @@ use std::sync::Arc;
 
 // The parts of a query.
 #[derive(Debug, Drop)]
-struct Parts {
+struct QueryParts {
     kind: QueryType,
     source: Name,
     granularity: Granularity,
@@ -25,7 +25,7 @@ struct Parts {
     aggregations: Vec<Aggregator>,
 }
 
-impl Model for Parts {
+impl Model for QueryParts {
     ghost use Rattle.std.specs.Prelude.{option_map};
     ghost use Rattle.std.specs.Coded.{codes};
     ghost use Rattle.druid_filter.specs.FilterCode.{coded_condition};
@@ -45,7 +45,7 @@ impl Model for Parts {
 /// A query, as it was read. Copies share its parts.
 #[derive(Debug, Drop)]
 pub struct Query {
-    parts: Arc<Parts, Global>,
+    parts: Arc<QueryParts, Global>,
 }
 
 impl Model for Query {
@@ -81,7 +81,7 @@ impl Query {
         ensures { IfOk result (λ query. query
             ≡ query_of kind source granularity intervals.items (option_map says filter) dimensions.items aggregations.items) }
     {
-        let parts = Parts {
+        let parts = QueryParts {
             kind,
             source,
             granularity,

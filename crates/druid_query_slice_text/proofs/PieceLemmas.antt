@@ -11,9 +11,9 @@ use Rattle.druid_base.proofs.EachLemmas.{each_sound}
 use Rattle.druid_query.specs.Asked.{Asked, lies_inside, Spelled, spelled_at, named_by, asked_at, inside_at}
 use Rattle.druid_query.proofs.SoundLemmas.{text_sound}
 
-named_tells : (source : List ℕ) (s : Spelled) (a : Asked) → named_by source s ≡ Some a → (a.0.source ≡ source) × IsExtent a.1
+named_reports : (source : List ℕ) (s : Spelled) (a : Asked) → named_by source s ≡ Some a → (a.0.source ≡ source) × IsExtent a.1
 unfolding named_by
-named_tells source s a h = through (result_ok (extent_at s.chunk)) (result_ok (extent_at s.piece)) (λ e is. text_sound (Some s.piece) e is) h
+named_reports source s a h = through (result_ok (extent_at s.chunk)) (result_ok (extent_at s.piece)) (λ e is. text_sound (Some s.piece) e is) h
   where
     through : (chunk piece : Option Extent) → ((e : Extent) → piece ≡ Some e → IsExtent e)
         → (chunk >>= λ c. piece >>= λ p. Some (record { source = source; interval = c; version = s.version; partition = s.partition }, p)) ≡ Some a → (a.0.source ≡ source) × IsExtent a.1
@@ -23,13 +23,13 @@ named_tells source s a h = through (result_ok (extent_at s.chunk)) (result_ok (e
         let same = same_Some (record { source = source; interval = c; version = s.version; partition = s.partition }, p) a h in
         (sym (ap (λ x. x.0.source) same), subst (λ x. IsExtent x.1) same (valid p refl))
 
-pub asked_tells : (source : List ℕ) (d : Data) (a : Asked) → asked_at source d ≡ Some a → (a.0.source ≡ source) × IsExtent a.1
+pub asked_reports : (source : List ℕ) (d : Data) (a : Asked) → asked_at source d ≡ Some a → (a.0.source ≡ source) × IsExtent a.1
 unfolding asked_at
-asked_tells source d a h = through (spelled_at d) h
+asked_reports source d a h = through (spelled_at d) h
   where
     through : (o : Option Spelled) → (o >>= λ s. named_by source s) ≡ Some a → (a.0.source ≡ source) × IsExtent a.1
     through None h = absurd (cc)
-    through (Some s) h = named_tells source s a h
+    through (Some s) h = named_reports source s a h
 
 pub inside_both : (source : List ℕ) (d : Data) (a : Asked) → inside_at source d ≡ Some a → (asked_at source d ≡ Some a) × (lies_inside a ≡ true)
 unfolding inside_at
@@ -43,14 +43,14 @@ inside_both source d a h = through (asked_at source d) h
     through None h = absurd (cc)
     through (Some x) h = tested x (lies_inside x) refl h
 
-pub inside_tells : (source : List ℕ) (d : Data) (a : Asked) → inside_at source d ≡ Some a → (a.0.source ≡ source) × IsExtent a.1
-inside_tells source d a h = asked_tells source d a (inside_both source d a h).0
+pub inside_reports : (source : List ℕ) (d : Data) (a : Asked) → inside_at source d ≡ Some a → (a.0.source ≡ source) × IsExtent a.1
+inside_reports source d a h = asked_reports source d a (inside_both source d a h).0
 
 pub inside_source : (source : List ℕ) (d : Data) (a : Asked) → inside_at source d ≡ Some a → source ≡ a.0.source
-inside_source source d a h = sym (inside_tells source d a h).0
+inside_source source d a h = sym (inside_reports source d a h).0
 
 pub asked_source : (source : List ℕ) (d : Data) (a : Asked) → asked_at source d ≡ Some a → source ≡ a.0.source
-asked_source source d a h = sym (asked_tells source d a h).0
+asked_source source d a h = sym (asked_reports source d a h).0
 
 pub inside_valid : (source : List ℕ) (ds : Items) (all : List Asked) → each_of (inside_at source) ds ≡ Some all → (a : Asked) → Contains all a → IsExtent a.1
-inside_valid source ds all read = each_sound (λ a. IsExtent a.1) (inside_at source) (λ d a h. (inside_tells source d a h).1) ds all read
+inside_valid source ds all read = each_sound (λ a. IsExtent a.1) (inside_at source) (λ d a h. (inside_reports source d a h).1) ds all read

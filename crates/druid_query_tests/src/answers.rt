@@ -1,5 +1,5 @@
 //! Answers of nodes, read and written again.
-use crate::printing::{filled, printed};
+use crate::printed::{filled, printed};
 use druid_partial_text::{answer_of, node_answer_text, read_node_answer};
 use druid_query_text::read_subquery;
 use serde_json::Value;

@@ -26,7 +26,7 @@ mod partial_text;
 #[cfg(test)]
 mod plain;
 #[cfg(test)]
-mod printing;
+mod printed;
 #[cfg(test)]
 mod queries;
 #[cfg(test)]

@@ -1,5 +1,5 @@
 //! Data nodes over folders in memory, and what they answer to messages.
-use crate::printing::{assert_prints, filled, printed};
+use crate::printed::{assert_prints, filled, printed};
 use druid_folder::Folder;
 use druid_folder_store::MemoryFolder;
 use druid_node::{DataNode, Incarnation, NodeFault, NodeState};
@@ -586,9 +586,9 @@ fn leaves<R: Abort + Wait>(
     if before.starts_with("N1") {
         files.fuse(0);
     }
-    let is_told = before.is_empty() || started(rt, alloc, &mut files).as_str() == before;
+    let is_as_before = before.is_empty() || started(rt, alloc, &mut files).as_str() == before;
     files.stop(keep).expect(rt, "a stop");
-    is_told && started(rt, alloc, &mut files).as_str() == wanted
+    is_as_before && started(rt, alloc, &mut files).as_str() == wanted
 }
 
 // A stop before the only call of a load, at it, and after it.

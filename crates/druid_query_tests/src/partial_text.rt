@@ -1,5 +1,5 @@
 //! Partials, read and written again, and the results that they are written as.
-use crate::printing::{assert_prints, printed};
+use crate::printed::{assert_prints, printed};
 use druid_partial_text::{PartialFault, partial_text, read_partial, result_text, shortfall_text};
 use druid_query::{Query, SegmentSlice};
 use druid_query_slice_text::read_asked;

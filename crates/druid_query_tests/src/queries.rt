@@ -1,6 +1,6 @@
 //! Queries to a data node.
 use crate::node::{First, LAYOUTS, Layout, answers, node};
-use crate::printing::filled;
+use crate::printed::filled;
 use druid_node::DataNode;
 use druid_segment_descriptor::Mark;
 use std::alloc::Global;

@@ -1,5 +1,5 @@
 //! Parts of queries, copies, and faults as they are printed.
-use crate::printing::assert_prints;
+use crate::printed::assert_prints;
 use druid_query::{Aggregator, AggregatorKind, Dimension, QueryFault};
 use druid_query_text::{query_text, read_query};
 use std::alloc::Global;

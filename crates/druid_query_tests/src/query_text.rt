@@ -1,5 +1,5 @@
 //! Queries, read and written again.
-use crate::printing::printed;
+use crate::printed::printed;
 use druid_query_text::{query_of, query_text, read_query};
 use serde_json::Value;
 use std::alloc::Global;

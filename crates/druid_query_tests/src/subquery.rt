@@ -1,5 +1,5 @@
 //! Subqueries, read and written again.
-use crate::printing::{filled, printed};
+use crate::printed::{filled, printed};
 use druid_query::SubQuery;
 use druid_query_text::{read_subquery, subquery_of, subquery_text, subquery_value};
 use std::alloc::Global;

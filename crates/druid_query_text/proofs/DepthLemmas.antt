@@ -14,7 +14,7 @@ use Rattle.druid_query.specs.SubQuery.{SubQuery, segments_data, sub_timeseries_d
 use Rattle.druid_query.specs.declared.query_type.QueryType.{QueryType}
 use Rattle.druid_query.specs.declared.query_type.QueryType.TheVariants.{Timeseries, GroupBy}
 use Rattle.druid_query.proofs.PartLemmas.{parts_whole}
-use Rattle.druid_query_text.proofs.QueryBackLemmas.{Passes, filter_tells}
+use Rattle.druid_query_text.proofs.QueryBackLemmas.{Passes, filter_reports}
 
 value_deep : (v : Option (List ℕ)) → depth (value_data v) ≤ 0
 value_deep None = omega arith
@@ -80,7 +80,7 @@ kinded_deep GroupBy q passes =
 
 -- the JSON of a query nests no deeper than a reader takes
 pub query_deep : (q : Query) → IsQuery q → depth (query_data q) ≤ 127
-query_deep q (e, read) = kinded_deep q.kind q (filter_tells e q.filter (parts_whole e q read).filter)
+query_deep q (e, read) = kinded_deep q.kind q (filter_reports e q.filter (parts_whole e q read).filter)
 
 -- ---- subqueries
 
@@ -101,4 +101,4 @@ kinded_sub_deep GroupBy q segments passes few =
 
 pub subquery_deep : (sub : SubQuery) → IsQuery sub.query → depth (subquery_data sub) ≤ 127
 subquery_deep sub (e, read) =
-    kinded_sub_deep sub.query.kind sub.query (segments_data sub.asked) (filter_tells e sub.query.filter (parts_whole e sub.query read).filter) (segments_deep sub.asked)
+    kinded_sub_deep sub.query.kind sub.query (segments_data sub.asked) (filter_reports e sub.query.filter (parts_whole e sub.query read).filter) (segments_deep sub.asked)

@@ -17,7 +17,7 @@ use Rattle.druid_base.specs.Each.{each_of}
 use Rattle.druid_base.specs.Fields.{text_or_null, text_at}
 use Rattle.druid_query.specs.Filters.{selector_in, among_in, filter_of_type, filter_at, filter_in, filters_in, filters_at, each_filter}
 use Rattle.druid_query_text.specs.Levels.{Layer, selector, among, all, any, negation, selector_layer, among_layer, fields_at, layer_named, layer_at, layer_says, layer_of, IsWithin}
-use Rattle.druid_query_text.specs.declared.filter.Level.{Level}
+use Rattle.druid_query_text.specs.declared.filter.FilterLevel.{FilterLevel}
 
 -- ---- what stands at a key
 
@@ -251,8 +251,8 @@ map_some f None = refl
 map_some f (Some x) = refl
 
 -- the layer of a level, by the level's case
-pub reported : (l m : Level) (d : Data) → l ≡ m → Some (layer_of l) ≡ layer_at d → Some (layer_of m) ≡ layer_at d
-reported l m d e h = sym (ap (λ (k : Level). Some (layer_of k)) e) ∙ h
+pub reported : (l m : FilterLevel) (d : Data) → l ≡ m → Some (layer_of l) ≡ layer_at d → Some (layer_of m) ≡ layer_at d
+reported l m d e h = sym (ap (λ (k : FilterLevel). Some (layer_of k)) e) ∙ h
 
 -- ---- filters built one by one
 

@@ -11,5 +11,5 @@ pub mod SubLemmas
 pub mod QueryBackLemmas
 pub mod SubBackLemmas
 pub mod SubSoundLemmas
-pub mod SubTellLemmas
+pub mod SubReportLemmas
 pub mod DepthLemmas

@@ -32,18 +32,18 @@ when_true {A} true x y e h = (refl, same_Ok x y h)
     same_Ok p q e' = cc
 when_true false x y e h = absurd (cc)
 
-pub list_tells : {A : Type 0} (o : Option Items) (shape each : Refusal) (f : Data → Option A) (fits : List A → Bool) (all : List A) → list_of o shape f each fits ≡ Ok all
+pub list_reports : {A : Type 0} (o : Option Items) (shape each : Refusal) (f : Data → Option A) (fits : List A → Bool) (all : List A) → list_of o shape f each fits ≡ Ok all
     → (ds : Items) × (o ≡ Some ds) × (each_of f ds ≡ Some all) × (fits all ≡ true)
-list_tells None shape each f fits all h = absurd (cc)
-list_tells {A} (Some ds) shape each f fits all h = let r = through (each_of f ds) h in (ds, refl, r.0, r.1)
+list_reports None shape each f fits all h = absurd (cc)
+list_reports {A} (Some ds) shape each f fits all h = let r = through (each_of f ds) h in (ds, refl, r.0, r.1)
   where
     through : (o : Option (List A)) → (or_refuse o each >>= λ xs. when (fits xs) xs limit_passed) ≡ Ok all → (o ≡ Some all) × (fits all ≡ true)
     through None h = absurd (cc)
     through (Some xs) h = let w = when_true (fits xs) xs all limit_passed h in (ap Some w.1, ap fits (sym w.1) ∙ w.0)
 
-pub source_tells : (d : Data) (s : List ℕ) → source_at d ≡ Ok s → is_name s ≡ true
+pub source_reports : (d : Data) (s : List ℕ) → source_at d ≡ Ok s → is_name s ≡ true
 unfolding source_at
-source_tells d s h = through (option_and_then source_text (get (codes "dataSource") d)) h
+source_reports d s h = through (option_and_then source_text (get (codes "dataSource") d)) h
   where
     named : (x : List ℕ) (b : Bool) (e : Refusal) → is_name x ≡ b → (if b then Ok x else Err e) ≡ Ok s → is_name s ≡ true
     named x true e is h = ap is_name (sym (same x s h)) ∙ is
@@ -62,10 +62,10 @@ pub record Timed (all : List Extent) : Type 0 where
   pub few : fit_intervals all ≡ true
 
 -- whichever way the texts are found
-pub times_tell : (texts : Data → Option Items) (shape : Refusal) (o : Option Data) (all : List Extent) → ((e : Data) (ds : Items) → texts e ≡ Some ds → HasItem ds)
+pub times_report : (texts : Data → Option Items) (shape : Refusal) (o : Option Data) (all : List Extent) → ((e : Data) (ds : Items) → texts e ≡ Some ds → HasItem ds)
     → list_of (option_and_then texts o) shape interval_of bad_interval fit_intervals ≡ Ok all → Timed all
-times_tell texts shape o all item h =
-    let t = list_tells (option_and_then texts o) shape bad_interval interval_of fit_intervals all h in
+times_report texts shape o all item h =
+    let t = list_reports (option_and_then texts o) shape bad_interval interval_of fit_intervals all h in
     record {
       some = read_some interval_of t.0 all (item_of o t.0 t.1) t.2;
       each = each_sound IsExtent interval_of interval_sound t.0 all t.2;
@@ -76,17 +76,17 @@ times_tell texts shape o all item h =
     item_of None ds h = absurd (cc)
     item_of (Some e) ds h = item e ds h
 
-intervals_tell : (d : Data) (all : List Extent) → intervals_at d ≡ Ok all → Timed all
+intervals_report : (d : Data) (all : List Extent) → intervals_at d ≡ Ok all → Timed all
 unfolding intervals_at
-intervals_tell d all h = times_tell interval_texts (bad_field (codes "intervals")) (get (codes "intervals") d) all texts_item h
+intervals_report d all h = times_report interval_texts (bad_field (codes "intervals")) (get (codes "intervals") d) all texts_item h
 
 abbrev pub Passes : Option Condition → Type 0
 Passes None = Unit {0}
 Passes (Some c) = fits_filter c ≡ true
 
-pub filter_tells : (d : Data) (f : Option Condition) → filter_field d ≡ Ok f → Passes f
+pub filter_reports : (d : Data) (f : Option Condition) → filter_field d ≡ Ok f → Passes f
 unfolding filter_field wanted_filter
-filter_tells d f h = at (get (codes "filter") d) h
+filter_reports d f h = at (get (codes "filter") d) h
   where
     same : (p q : Option Condition) → ◌≡◌ {A = Result (Option Condition) Refusal} (Ok p) (Ok q) → p ≡ q
     same p q e' = cc
@@ -107,16 +107,16 @@ pub record Counted (all : List Aggregator) : Type 0 where
   each : (a : Aggregator) → Contains all a → Fits a.kind a.field
   few : fit_aggregators all ≡ true
 
-aggregations_tell : (d : Data) (all : List Aggregator) → aggregations_at d ≡ Ok all → Counted all
+aggregations_report : (d : Data) (all : List Aggregator) → aggregations_at d ≡ Ok all → Counted all
 unfolding aggregations_at
-aggregations_tell d all h =
-    let t = list_tells (items_or_none (get (codes "aggregations") d)) (bad_field (codes "aggregations")) (bad_field (codes "aggregations")) aggregator_at fit_aggregators all h in
+aggregations_report d all h =
+    let t = list_reports (items_or_none (get (codes "aggregations") d)) (bad_field (codes "aggregations")) (bad_field (codes "aggregations")) aggregator_at fit_aggregators all h in
     record { each = each_sound (λ a. Fits a.kind a.field) aggregator_at aggregator_sound t.0 all t.2; few = t.3 }
 
-dimensions_tell : (d : Data) (all : List Dimension) → listed_dimensions d ≡ Ok all → fit_dimensions all ≡ true
+dimensions_report : (d : Data) (all : List Dimension) → listed_dimensions d ≡ Ok all → fit_dimensions all ≡ true
 unfolding listed_dimensions
-dimensions_tell d all h =
-    (list_tells (items_or_none (get (codes "dimensions") d)) (bad_field (codes "dimensions")) (bad_field (codes "dimensions")) dimension_at fit_dimensions all h).3
+dimensions_report d all h =
+    (list_reports (items_or_none (get (codes "dimensions") d)) (bad_field (codes "dimensions")) (bad_field (codes "dimensions")) dimension_at fit_dimensions all h).3
 
 -- ---- what is written is read
 
@@ -178,9 +178,9 @@ abbrev pub FitKind : QueryType → List Dimension → Type 0
 FitKind Timeseries all = all ≡ []
 FitKind GroupBy all = fit_dimensions all ≡ true
 
-kind_tells : (k : QueryType) (d : Data) (all : List Dimension) → dimensions_at k d ≡ Ok all → FitKind k all
-kind_tells Timeseries d all h = sym (same_ok [] all h)
-kind_tells GroupBy d all h = dimensions_tell d all h
+kind_reports : (k : QueryType) (d : Data) (all : List Dimension) → dimensions_at k d ≡ Ok all → FitKind k all
+kind_reports Timeseries d all h = sym (same_ok [] all h)
+kind_reports GroupBy d all h = dimensions_report d all h
 
 kind_read : (k : QueryType) (d : Data) (all : List Dimension) → (k ≡ GroupBy → get (codes "dimensions") d ≡ Some (array (dimensions_data all))) → FitKind k all → dimensions_at k d ≡ Ok all
 kind_read Timeseries d all h good = ap Ok (sym good)
@@ -198,18 +198,18 @@ pub record IsSound (q : Query) : Type 0 where
 pub sound_of : (d : Data) (q : Query) → source_at d ≡ Ok q.source → Timed q.intervals → filter_field d ≡ Ok q.filter → dimensions_at q.kind d ≡ Ok q.dimensions → aggregations_at d ≡ Ok q.aggregations
     → are_distinct (result_names q.dimensions q.aggregations) ≡ true → IsSound q
 sound_of d q a t h j l distinct = record {
-  source = source_tells d q.source a;
+  source = source_reports d q.source a;
   times = t;
-  filter = filter_tells d q.filter h;
-  dimensions = kind_tells q.kind d q.dimensions j;
-  aggregations = aggregations_tell d q.aggregations l;
+  filter = filter_reports d q.filter h;
+  dimensions = kind_reports q.kind d q.dimensions j;
+  aggregations = aggregations_report d q.aggregations l;
   distinct = distinct;
 }
 
 pub query_sound : (q : Query) → IsQuery q → IsSound q
 query_sound q (d, read) =
     let p = parts_whole d q read in
-    sound_of d q p.source (intervals_tell d q.intervals p.intervals) p.filter p.dimensions p.aggregations p.distinct
+    sound_of d q p.source (intervals_report d q.intervals p.intervals) p.filter p.dimensions p.aggregations p.distinct
 
 -- the keys of the written JSON, but for the intervals
 pub record Keys (d : Data) (q : Query) : Type 0 where

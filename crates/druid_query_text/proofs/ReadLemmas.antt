@@ -9,7 +9,7 @@ use Rattle.druid_time.specs.declared.granularity.Granularity.{Granularity}
 use Rattle.druid_filter.specs.Filters.{Condition}
 use Rattle.druid_query.specs.Query.{Dimension, Aggregator, result_names}
 use Rattle.druid_base.specs.Distinct.{are_distinct}
-use Rattle.druid_query.specs.Refusal.{Refusal, unknown_type, doubled_name, or_refuse, when, Tells, TellsAfter}
+use Rattle.druid_query.specs.Refusal.{Refusal, unknown_type, doubled_name, or_refuse, when, Reports, ReportsAfter}
 use Rattle.druid_query.specs.Fields.{kind_at}
 use Rattle.druid_query.specs.Read.{source_at, granularity_at, filter_field, dimensions_at, aggregations_at, no_more_at, intervals_at, query_at}
 use Rattle.druid_query.specs.declared.fault.QueryFault.{QueryFault}
@@ -23,16 +23,16 @@ use Rattle.druid_query_text.specs.Parts.{Head, Tail, head_by, tail_by, head_at, 
 
 -- ---- one refusal after another
 
-pub tells : {A : Type 0} (e : QueryFault) (r : Result A Refusal) → Refuses e r → Tells e r
-tells faults.NotJson r h = h
-tells faults.UnknownType r h = h
-tells (faults.Field key) r h = h
-tells faults.BadInterval r h = h
-tells faults.LimitPassed r h = h
-tells faults.DoubledName r h = h
-tells faults.Memory r h = absurd h
+pub reports : {A : Type 0} (e : QueryFault) (r : Result A Refusal) → Refuses e r → Reports e r
+reports faults.NotJson r h = h
+reports faults.UnknownType r h = h
+reports (faults.Field key) r h = h
+reports faults.BadInterval r h = h
+reports faults.LimitPassed r h = h
+reports faults.DoubledName r h = h
+reports faults.Memory r h = absurd h
 
-pub refuses : {A : Type 0} (e : QueryFault) (r : Result A Refusal) → (e ≡ faults.Memory → ⊥) → Tells e r → Refuses e r
+pub refuses : {A : Type 0} (e : QueryFault) (r : Result A Refusal) → (e ≡ faults.Memory → ⊥) → Reports e r → Refuses e r
 refuses faults.NotJson r other h = h
 refuses faults.UnknownType r other h = h
 refuses (faults.Field key) r other h = h
@@ -52,14 +52,14 @@ other_than faults.Memory r h = absurd h
 
 -- a step is refused
 pub stop : {A B : Type 0} (r : Result A Refusal) (f : A → Result B Refusal) (e : QueryFault) → Refuses e r → Refuses e (r >>= f)
-stop r f e h = refuses e (r >>= f) (other_than e r h) (steps.stop r f e (other_than e r h) (tells e r h))
+stop r f e h = refuses e (r >>= f) (other_than e r h) (steps.stop r f e (other_than e r h) (reports e r h))
 
 -- a step goes on
 pub go : {A B : Type 0} (r : Result A Refusal) (f : A → Result B Refusal) (P : Result B Refusal → Type 0) (x : A) → r ≡ Ok x → P (f x) → P (r >>= f)
 go r f P x is h = subst (λ w. P (w >>= f)) (sym is) h
 
-pub after : {A B : Type 0} (before : Result B Refusal) (e : QueryFault) (r : Result A Refusal) → Refuses e r → TellsAfter before e r
-after before e r h = to_after before e r (other_than e r h) (tells e r h)
+pub after : {A B : Type 0} (before : Result B Refusal) (e : QueryFault) (r : Result A Refusal) → Refuses e r → ReportsAfter before e r
+after before e r h = to_after before e r (other_than e r h) (reports e r h)
 
 -- what holds of an error holds of what `?` makes of it
 pub error_holds : {A : Type 0} (P : Result A QueryFault → Type 0) (r : Result A QueryFault) (e : QueryFault) → IsErrAnd r (λ f. f ≡ e) → P (Err e) → P r

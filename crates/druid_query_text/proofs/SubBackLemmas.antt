@@ -27,7 +27,7 @@ use Rattle.druid_query_text.proofs.SubLemmas.{subs, of_sub, span_bound}
 use Rattle.druid_query.proofs.BackLemmas.{texts_back}
 use Rattle.druid_query.proofs.SoundLemmas.{HasItem, bound_item, IsSomeList}
 use Rattle.serde_json.specs.Find.{as_array}
-use Rattle.druid_query_text.proofs.QueryBackLemmas.{Timed, Keys, keys_back, query_sound, sound_of, sound_back, times_tell, times_read, no_both}
+use Rattle.druid_query_text.proofs.QueryBackLemmas.{Timed, Keys, keys_back, query_sound, sound_of, sound_back, times_report, times_read, no_both}
 
 -- ---- the pieces
 
@@ -77,9 +77,9 @@ item_of : (d : Data) (ds : Items) → listed_texts d ≡ Some ds → HasItem ds
 unfolding listed_texts
 item_of d ds h = bound_item (as_array d) ds h
 
-intervals_tell : (d : Data) (all : List Extent) → query_intervals_at d ≡ Ok all → Timed all
+intervals_report : (d : Data) (all : List Extent) → query_intervals_at d ≡ Ok all → Timed all
 unfolding query_intervals_at
-intervals_tell d all h = times_tell listed_texts (bad_field (codes "queryIntervals")) (get (codes "queryIntervals") d) all item_of h
+intervals_report d all h = times_report listed_texts (bad_field (codes "queryIntervals")) (get (codes "queryIntervals") d) all item_of h
 
 span_read : (source : List ℕ) (d : Data) (asked : List Asked) (all : List Extent) → apart_at source d ≡ Ok asked → query_intervals_at d ≡ Ok all → span_at source d ≡ Ok (record { asked = asked; intervals = all })
 unfolding span_at
@@ -133,5 +133,5 @@ sub_query d sub read =
     let made = ap (λ x. x.query) p.made in
     let distinct : are_distinct (result_names p.dimensions p.aggregations) ≡ true = ap (λ x. are_distinct (result_names x.query.dimensions x.query.aggregations)) p.made ∙ whole.1 in
     let sound = sound_of d (query_of p.kind p.source p.granularity p.times.intervals p.filter p.dimensions p.aggregations) p.source_is
-    (intervals_tell d p.times.intervals (span_bound p.source d p.times p.times_is).1) p.filter_is p.dimensions_is p.aggregations_is distinct in
+    (intervals_report d p.times.intervals (span_bound p.source d p.times p.times_is).1) p.filter_is p.dimensions_is p.aggregations_is distinct in
     subst IsQuery made (_, sound_back (query_of p.kind p.source p.granularity p.times.intervals p.filter p.dimensions p.aggregations) sound)

@@ -11,7 +11,7 @@ use Rattle.druid_base.specs.Each.{each_of}
 use Rattle.druid_base.proofs.EachLemmas.{not_all_read}
 use Rattle.druid_query.specs.Query.{query_of}
 use Rattle.druid_query.specs.Asked.{Asked, inside_at, stand_apart}
-use Rattle.druid_query.specs.Refusal.{Refusal, bad_field, bad_interval, unknown_type, or_refuse, when, TellsAfter}
+use Rattle.druid_query.specs.Refusal.{Refusal, bad_field, bad_interval, unknown_type, or_refuse, when, ReportsAfter}
 use Rattle.druid_query.specs.Fields.{kind_at}
 use Rattle.druid_query.specs.Read.{source_at, granularity_at}
 use Rattle.druid_query.specs.SubQuery.{SubQuery, Span, pieces_at, apart_at, query_intervals_at, span_at, sub_parts_at, subquery_at, before_search}
@@ -22,7 +22,7 @@ use Rattle.druid_query.proofs.StepLemmas.{bound}
 use Rattle.druid_query_text.specs.Found.{Refuses, readings}
 use Rattle.druid_query_text.specs.Parts.{Head, Tail, head_by, head_at, tail_at, query_by}
 use Rattle.druid_query_text.proofs.ListLemmas.{all_read, each_reading}
-use Rattle.druid_query_text.proofs.ReadLemmas.{tells, refuses, stop, go, after, after_head, after_times, by_parts, whole_parts, at_times, at_tail, all_parts}
+use Rattle.druid_query_text.proofs.ReadLemmas.{reports, refuses, stop, go, after, after_head, after_times, by_parts, whole_parts, at_times, at_tail, all_parts}
 
 abbrev pub subs : Reading Span SubQuery
 subs = record {
@@ -106,15 +106,15 @@ before_parts d = through (or_refuse (kind_at d) unknown_type) (source_at d) (gra
 before_is : (d : Data) (h : Head) → head_at d ≡ Ok h → before_search d ≡ pieces_at h.source d
 before_is d h is = before_parts d ∙ ap (λ r. r >>= λ h'. pieces_at h'.source d) is
 
-pub sub_head : (d : Data) (e : QueryFault) → Refuses e (head_at d) → TellsAfter (before_search d) e (subquery_at d)
+pub sub_head : (d : Data) (e : QueryFault) → Refuses e (head_at d) → ReportsAfter (before_search d) e (subquery_at d)
 sub_head d e h = after (before_search d) e (subquery_at d) (subst (Refuses e) (of_sub_parts d) (stop (head_at d) (λ h'. after_head subs d h') e h))
 
-pub sub_times : (d : Data) (h : Head) (e : QueryFault) → head_at d ≡ Ok h → TellsAfter (pieces_at h.source d) e (span_at h.source d) → TellsAfter (before_search d) e (subquery_at d)
+pub sub_times : (d : Data) (h : Head) (e : QueryFault) → head_at d ≡ Ok h → ReportsAfter (pieces_at h.source d) e (span_at h.source d) → ReportsAfter (before_search d) e (subquery_at d)
 sub_times d h e is t =
     carried (pieces_at h.source d) (span_at h.source d) (before_search d) (subquery_at d) e (subst (λ r. IsOk r) (sym (before_is d h is)))
-    (λ other reported. tells e (subquery_at d) (subst (Refuses e) (of_sub_parts d) (at_times subs d (Refuses e) h is (stop (span_at h.source d) (λ i. after_times subs d h i) e (refuses e (span_at h.source d) other reported))))) t
+    (λ other reported. reports e (subquery_at d) (subst (Refuses e) (of_sub_parts d) (at_times subs d (Refuses e) h is (stop (span_at h.source d) (λ i. after_times subs d h i) e (refuses e (span_at h.source d) other reported))))) t
 
-pub sub_tail : (d : Data) (h : Head) (t : Span) (e : QueryFault) → head_at d ≡ Ok h → span_at h.source d ≡ Ok t → Refuses e (tail_at h.kind d) → TellsAfter (before_search d) e (subquery_at d)
+pub sub_tail : (d : Data) (h : Head) (t : Span) (e : QueryFault) → head_at d ≡ Ok h → span_at h.source d ≡ Ok t → Refuses e (tail_at h.kind d) → ReportsAfter (before_search d) e (subquery_at d)
 sub_tail d h t e is read l =
     after (before_search d) e (subquery_at d)
     (subst (Refuses e) (of_sub_parts d) (at_tail subs d (Refuses e) h t is read (stop (tail_at h.kind d) (λ l'. Ok (record { query = query_by h t.intervals l'; asked = t.asked })) e l)))

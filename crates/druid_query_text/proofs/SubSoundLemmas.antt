@@ -14,7 +14,7 @@ use Rattle.druid_base.specs.Fields.{text_at, limited_at, number_at}
 use Rattle.druid_query.specs.Asked.{Asked, Spelled, version_of, spelled_at, named_by, asked_at, inside_at, lies_inside, segments_in, asked_items}
 use Rattle.druid_query.specs.Fields.{each_among}
 use Rattle.druid_base.specs.Each.{each_of}
-use Rattle.druid_query_slice_text.proofs.PieceLemmas.{inside_tells, inside_both}
+use Rattle.druid_query_slice_text.proofs.PieceLemmas.{inside_reports, inside_both}
 use Rattle.druid_query.proofs.SoundLemmas.{text_sound, HasItem}
 
 -- ---- the shape of a piece
@@ -41,9 +41,9 @@ spelled_sound (Some c) (Some p) (Some n) None s few valid h = absurd (cc)
 spelled_sound (Some c) (Some p) (Some n) (Some v) s few valid h =
     subst IsSpelled (same_Some (record { chunk = c; piece = p; partition = n; version = v }) s h) (record { partition = few n refl; version = valid v refl })
 
-spelled_tells : (d : Data) (s : Spelled) → spelled_at d ≡ Some s → IsSpelled s
+spelled_reports : (d : Data) (s : Spelled) → spelled_at d ≡ Some s → IsSpelled s
 unfolding spelled_at
-spelled_tells d s h =
+spelled_reports d s h =
     spelled_sound (text_at (codes "chunk") d) (text_at (codes "itvl") d) (limited_at 65_535 (codes "part") d) (version_of d) s
     (λ n is. leb-true n 65_535 (kept (λ m. nat_le m 65_535) (number_at (codes "part") d) n is))
     (λ v is. is_version-to v (kept is_version (text_at (codes "ver") d) v is)) h
@@ -69,7 +69,7 @@ asked_sound source d a name h = through (spelled_at d) refl h
   where
     through : (o : Option Spelled) → spelled_at d ≡ o → (o >>= λ s. named_by source s) ≡ Some a → IsIdentifier a.0 × IsExtent a.1
     through None is h = absurd (cc)
-    through (Some s) is h = named_sound source s a name (spelled_tells d s is) h
+    through (Some s) is h = named_sound source s a name (spelled_reports d s is) h
 
 -- a piece as it may be asked for
 pub record IsPiece (source : List ℕ) (a : Asked) : Type 0 where
@@ -80,7 +80,7 @@ pub record IsPiece (source : List ℕ) (a : Asked) : Type 0 where
 pub inside_sound : (source : List ℕ) (d : Data) (a : Asked) → IsName source → inside_at source d ≡ Some a → IsPiece source a
 inside_sound source d a name h =
     let both = inside_both source d a h in
-    record { valid = asked_sound source d a name both.0; source_is = (inside_tells source d a h).0; inside = both.1 }
+    record { valid = asked_sound source d a name both.0; source_is = (inside_reports source d a h).0; inside = both.1 }
 
 -- ---- a list with a member
 

@@ -5,14 +5,14 @@ use Rattle.serde_json.specs.Data.{Data}
 use Rattle.serde_json.specs.View.{view, items_view}
 use Rattle.serde_json.specs.declared.value.Value.{Value}
 use Rattle.druid_base.specs.Each.{each_of}
-use Rattle.druid_query.specs.Refusal.{Refusal, Tells, TellsAfter}
+use Rattle.druid_query.specs.Refusal.{Refusal, Reports, ReportsAfter}
 use Rattle.druid_query.specs.declared.fault.QueryFault.{QueryFault}
 use Rattle.druid_query.specs.declared.fault.QueryFault.TheVariants as faults
 
 -- the fault that tells a refusal, and never that memory ran out
 abbrev pub Refuses : {A : Type 0} → QueryFault → Result A Refusal → Type 0
 Refuses faults.Memory read = ⊥
-Refuses fault read = Tells fault read
+Refuses fault read = Reports fault read
 
 -- a function that does not allocate answers with what reading gives, which is f of its value
 abbrev pub FindsBy : {A B : Type 0} → (A → B) → Result A QueryFault → Result B Refusal → Type 0
@@ -25,7 +25,7 @@ Finds answer read = FindsBy (λ x. x) answer read
 -- the same where a search allocates on the way
 abbrev pub FindsAfter : {A B C : Type 0} → (A → B) → Result C Refusal → Result A QueryFault → Result B Refusal → Type 0
 FindsAfter f before (Ok x) read = read ≡ Ok (f x)
-FindsAfter f before (Err e) read = TellsAfter before e read
+FindsAfter f before (Err e) read = ReportsAfter before e read
 
 -- what a value reads as, and that it does
 abbrev pub read_of : {A : Type 0} → (Data → Option A) → Value → Option A

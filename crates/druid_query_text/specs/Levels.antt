@@ -13,8 +13,8 @@ use Rattle.druid_base.specs.Each.{each_of}
 use Rattle.druid_base.specs.Fields.{text_or_null, text_at}
 use Rattle.druid_query.specs.Filters.{filter_at, each_filter}
 use Rattle.druid_query_text.specs.Found.{holds_in}
-use Rattle.druid_query_text.specs.declared.filter.Level.{Level}
-use Rattle.druid_query_text.specs.declared.filter.Level.TheVariants as levels
+use Rattle.druid_query_text.specs.declared.filter.FilterLevel.{FilterLevel}
+use Rattle.druid_query_text.specs.declared.filter.FilterLevel.TheVariants as levels
 
 -- a filter, where the filters inside are still values
 pub data Layer : Type 0 where
@@ -70,7 +70,7 @@ IsWithin deep (any fields) = items_depth fields < deep
 IsWithin deep (negation field) = depth field < deep
 
 -- a level as the reader borrows it
-abbrev pub layer_of : Level → Layer
+abbrev pub layer_of : FilterLevel → Layer
 layer_of (levels.Selector dimension value) = selector dimension.now (option_map (λ s. s.now) value)
 layer_of (levels.Among dimension values) = among dimension.now (items_view values.now)
 layer_of (levels.All fields) = all (items_view fields.now)

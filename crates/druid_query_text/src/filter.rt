@@ -23,7 +23,7 @@ use std::alloc::{AllocError, Global};
 
 // A filter seen one level deep, with borrowed texts.
 #[derive(Drop)]
-enum Level<'a> {
+enum FilterLevel<'a> {
     Selector(&'a str, Option<&'a str>),
     Among(&'a str, &'a [Value]),
     All(&'a [Value]),
@@ -31,38 +31,38 @@ enum Level<'a> {
     Not(&'a Value),
 }
 
-fn selector_level(value: &Value) -> Option<Level<'_>>
+fn selector_level(value: &Value) -> Option<FilterLevel<'_>>
     ensures { option_map layer_of result ≡ selector_layer (view value.now) }
 {
     let dimension = text_field(value, "dimension")?;
     let wanted = text_or_null(value.get("value")?)?;
-    Some(Level::Selector(dimension, wanted))
+    Some(FilterLevel::Selector(dimension, wanted))
 }
 
-fn among_level(value: &Value) -> Option<Level<'_>>
+fn among_level(value: &Value) -> Option<FilterLevel<'_>>
     ensures { option_map layer_of result ≡ among_layer (view value.now) }
 {
     let dimension = text_field(value, "dimension")?;
     let values = list_field(value, "values")?;
-    Some(Level::Among(dimension, values))
+    Some(FilterLevel::Among(dimension, values))
 }
 
 #[tactic(auto, unfolding(crate::specs::Levels::layer_named))]
-fn level_named<'a>(kind: &str, value: &'a Value) -> Option<Level<'a>>
+fn level_named<'a>(kind: &str, value: &'a Value) -> Option<FilterLevel<'a>>
     ensures { option_map layer_of result ≡ layer_named kind.now (view value.now) }
 {
     match kind {
         "selector" => selector_level(value),
         "in" => among_level(value),
-        "and" => Some(Level::All(list_field(value, "fields")?)),
-        "or" => Some(Level::Any(list_field(value, "fields")?)),
-        "not" => Some(Level::Not(value.get("field")?)),
+        "and" => Some(FilterLevel::All(list_field(value, "fields")?)),
+        "or" => Some(FilterLevel::Any(list_field(value, "fields")?)),
+        "not" => Some(FilterLevel::Not(value.get("field")?)),
         _ => None,
     }
 }
 
 #[tactic(auto, unfolding(crate::specs::Levels::layer_at))]
-fn level_of(value: &Value) -> Option<Level<'_>>
+fn level_of(value: &Value) -> Option<FilterLevel<'_>>
     ensures { option_map layer_of result ≡ layer_at (view value.now) }
 {
     level_named(text_field(value, "type")?, value)
@@ -75,11 +75,11 @@ fn is_filter(value: &Value) -> bool
 {
     match level_of(value) {
         None => false,
-        Some(Level::Selector(_dimension, _wanted)) => true,
-        Some(Level::Among(_dimension, values)) => are_texts_or_null(values),
-        Some(Level::All(fields)) => are_filters(fields),
-        Some(Level::Any(fields)) => are_filters(fields),
-        Some(Level::Not(field)) => is_filter(field),
+        Some(FilterLevel::Selector(_dimension, _wanted)) => true,
+        Some(FilterLevel::Among(_dimension, values)) => are_texts_or_null(values),
+        Some(FilterLevel::All(fields)) => are_filters(fields),
+        Some(FilterLevel::Any(fields)) => are_filters(fields),
+        Some(FilterLevel::Not(field)) => is_filter(field),
     }
 }
 
@@ -154,11 +154,14 @@ fn room_after(value: &Value, deep: usize, room: usize) -> Option<usize>
     }
     match level_of(value) {
         None => None,
-        Some(Level::Selector(dimension, wanted)) => leaf(fits_selector(dimension, wanted), room),
-        Some(Level::Among(dimension, values)) => leaf(fits_among(dimension, values), room),
-        Some(Level::All(fields)) => room_after_all(fields, deep - 1, room - 1),
-        Some(Level::Any(fields)) => room_after_all(fields, deep - 1, room - 1),
-        Some(Level::Not(field)) => room_after(field, deep - 1, room - 1),
+        Some(FilterLevel::Selector(dimension, wanted)) => leaf(
+            fits_selector(dimension, wanted),
+            room,
+        ),
+        Some(FilterLevel::Among(dimension, values)) => leaf(fits_among(dimension, values), room),
+        Some(FilterLevel::All(fields)) => room_after_all(fields, deep - 1, room - 1),
+        Some(FilterLevel::Any(fields)) => room_after_all(fields, deep - 1, room - 1),
+        Some(FilterLevel::Not(field)) => room_after(field, deep - 1, room - 1),
     }
 }
 
@@ -244,11 +247,14 @@ pub(crate) fn filter_of(alloc: Global, value: &Value) -> Result<Filter, AllocErr
 {
     match level_of(value) {
         None => unreachable!(),
-        Some(Level::Selector(dimension, wanted)) => selector_of(alloc, dimension, wanted),
-        Some(Level::Among(dimension, values)) => among_of(alloc, dimension, values),
-        Some(Level::All(fields)) => Ok(Filter::All(filters_of(alloc, fields)?)),
-        Some(Level::Any(fields)) => Ok(Filter::Any(filters_of(alloc, fields)?)),
-        Some(Level::Not(field)) => Ok(Filter::Not(Box::new(alloc, filter_of(alloc, field)?)?)),
+        Some(FilterLevel::Selector(dimension, wanted)) => selector_of(alloc, dimension, wanted),
+        Some(FilterLevel::Among(dimension, values)) => among_of(alloc, dimension, values),
+        Some(FilterLevel::All(fields)) => Ok(Filter::All(filters_of(alloc, fields)?)),
+        Some(FilterLevel::Any(fields)) => Ok(Filter::Any(filters_of(alloc, fields)?)),
+        Some(FilterLevel::Not(field)) => Ok(Filter::Not(Box::new(
+            alloc,
+            filter_of(alloc, field)?,
+        )?)),
     }
 }
 

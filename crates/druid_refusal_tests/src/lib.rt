@@ -19,13 +19,13 @@ mod marks;
 #[cfg(test)]
 mod nodes;
 #[cfg(test)]
-mod operating;
-#[cfg(test)]
 mod published;
 #[cfg(test)]
 mod replies;
 #[cfg(test)]
 mod starts;
+#[cfg(test)]
+mod telemetry;
 #[cfg(test)]
 mod texts;
 #[cfg(test)]

@@ -11,7 +11,7 @@ use druid_segment_descriptor::{Ask, Body, Mark, Reply};
 use druid_segment_file::write_segment;
 use druid_segment_id::SegmentId;
 use druid_serve_base::Telemetry;
-use druid_serve_node::{Known, Reporter, Watch};
+use druid_serve_node::{KnownFiles, Reporter, Watch};
 use druid_telemetry_log::{Level, open};
 use druid_telemetry_metrics::NodeMeter;
 use http::Method;
@@ -248,7 +248,7 @@ fn reporter(rt: &impl Abort, alloc: Global) -> Reporter {
 // The file is there, is gone, and is there again.
 fn looks<R: Abort + Wait + Clock>(rt: &R, alloc: Global, node: &DataNode<First>) {
     let mut folder = folder(rt, alloc);
-    let mut watch = Watch::new(Known::new(alloc), Mark::new(1, 0));
+    let mut watch = Watch::new(KnownFiles::new(alloc), Mark::new(1, 0));
     let mut reporter = reporter(rt, alloc);
     tries(rt, alloc, node, &mut folder, &mut watch, &mut reporter);
     folder.remove(FILE).expect(rt, "memory");

@@ -12,7 +12,7 @@ use Rattle.druid_segment_descriptor.specs.declared.reply.Body.{Body}
 use Rattle.druid_timeline.specs.Pieces.{Reported}
 use Rattle.druid_inventory.specs.Entry.{Entry, fresh}
 use Rattle.druid_base.specs.Distinct.{AreDistinct}
-use Rattle.druid_inventory.specs.Step.{Steps, Refuses, Tells}
+use Rattle.druid_inventory.specs.Step.{Steps, Refuses, Reports}
 use Rattle.druid_inventory.specs.declared.fault.ApplyFault.{ApplyFault}
 use Rattle.druid_inventory.specs.declared.fault.ApplyFault.TheVariants as steps
 use Rattle.druid_inventory.specs.declared.fault.Outcome.{Outcome}
@@ -24,7 +24,7 @@ use Rattle.druid_inventory.specs.declared.fault.JoinFault.{JoinFault}
 use Rattle.druid_inventory.proofs.JoinLemmas.{refused_or_joined, one_refusal}
 use Rattle.druid_replay.specs.Commands.{Opening, Command, reply, lookup, marks, join, equal}
 use Rattle.druid_replay.specs.declared.reason.BadLine.{BadLine}
-use Rattle.druid_replay.specs.Serving.{TakesBrokers, read_refusal, not_applied, not_joined, RefusesReply, TakesReply, IsFound, LooksUp, Holds, JoinsInto, Does, Answers, IsNoCommand, IsAnswered, IsBad, IsBadFor, fault_in}
+use Rattle.druid_replay.specs.Execution.{TakesBrokers, read_refusal, not_applied, not_joined, RefusesReply, TakesReply, IsFound, LooksUp, Holds, JoinsInto, Does, Answers, IsNoCommand, IsAnswered, IsBad, IsBadFor, fault_in}
 use Rattle.druid_replay.specs.declared.answer.Refusal.{Refusal}
 use Rattle.druid_replay.specs.declared.answer.Refusal.TheVariants as refusals
 use Rattle.druid_replay.specs.declared.answer.CommandAnswer.{CommandAnswer}
@@ -113,7 +113,7 @@ OfReply inventory node d answer next =
     (r : Result Body SyncFault) × IsRead d r × OfRead inventory node r answer next
 
 reported_tree : (inventory : List Entry) (node : ℕ) (body : Body) (fault : ApplyFault) (refusal : Refusal)
-    → Tells inventory node body fault → not_applied fault ≡ Some refusal → OfBody inventory node body (Refused refusal) inventory
+    → Reports inventory node body fault → not_applied fault ≡ Some refusal → OfBody inventory node body (Refused refusal) inventory
 reported_tree inventory node body steps.UnknownNode refusal h is =
     inl (h, ap Refused (sym (same_Some refusals.UnknownNode refusal is)), refl)
 reported_tree inventory node body steps.OtherIncarnation refusal h is = inr (h.0, h.1, inl (_, refusal, h.2, is, refl, refl))

@@ -32,7 +32,7 @@ use Rattle.druid_inventory.proofs.JoinLemmas.{join_some, same_entries-decides}
 use Rattle.druid_replay.specs.Commands.{Opening, Command, reply, lookup, marks, join, equal, is_among, opening_at, asked_at, command_at}
 use Rattle.druid_replay.specs.Seen.{AreAmong}
 use Rattle.druid_replay.specs.declared.reason.BadLine.TheVariants.{TooLong, NotJson}
-use Rattle.druid_replay.specs.Serving.{TakesBrokers, TakesReply, LooksUp, Holds, JoinsInto, Does, Answers, IsNoCommand, IsAnswered, IsBad, fault_in, max_line}
+use Rattle.druid_replay.specs.Execution.{TakesBrokers, TakesReply, LooksUp, Holds, JoinsInto, Does, Answers, IsNoCommand, IsAnswered, IsBad, fault_in, max_line}
 use Rattle.druid_replay.specs.declared.answer.Refusal.TheVariants as refusals
 use Rattle.druid_replay.specs.declared.answer.CommandAnswer.{CommandAnswer}
 use Rattle.druid_replay.specs.declared.answer.CommandAnswer.TheVariants.{Refused, Taken, Stepped, Found, Marked, Joined, Compared}

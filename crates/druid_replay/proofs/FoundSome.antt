@@ -20,7 +20,7 @@ use Rattle.druid_timeline_chunks.proofs.ChunkLemmas.{same_group-exact, same_grou
 use Rattle.druid_timeline.proofs.RunsLemmas.{Shows-first, AreRuns-first}
 use Rattle.druid_inventory.specs.Entry.{Entry}
 use Rattle.druid_inventory.specs.Sources.{Serves, HasSource, IsHoldingOf}
-use Rattle.druid_replay.specs.Serving.{IsFound}
+use Rattle.druid_replay.specs.Execution.{IsFound}
 use Rattle.druid_replay.proofs.OrderOnce.{by_number}
 use Rattle.druid_timeline.proofs.HoldingLemmas.{in_filter, from_filter}
 use Rattle.druid_timeline.proofs.VisibleLemmas.{visible_at}

@@ -7,7 +7,7 @@ use Rattle.druid_timeline_members.specs.Members.{Member, SameMembers}
 use Rattle.druid_timeline.specs.Holding.{Held, members_of, SameHeld}
 use Rattle.druid_timeline.specs.Pieces.{Reported, Shown, shown_of, ArePartitions}
 use Rattle.druid_timeline.proofs.HoldingLemmas.{SameHeld-members, ArePiecesIn-same}
-use Rattle.druid_replay.specs.Serving.{AreFoundIn}
+use Rattle.druid_replay.specs.Execution.{AreFoundIn}
 use Rattle.druid_replay.proofs.OrderOnce.{once, by_number}
 
 parts_once : (old new : List Member) (xs ys : List ℕ) → SameMembers old new → ArePartitions old xs → ArePartitions new ys → xs ≡ ys

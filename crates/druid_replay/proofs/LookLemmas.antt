@@ -3,7 +3,7 @@ use Rattle.std.proofs.Common.{List, [], ◌∷◌, map, All, ◌⊎◌, inl, inr
 use Rattle.druid_time.specs.Extent.{Extent, Has, AnyHas, SameInstants}
 use Rattle.druid_timeline.specs.Holding.{Held, members_of}
 use Rattle.druid_timeline.specs.Pieces.{Reported, Shown, shown_of, ArePiecesIn, ArePartitions}
-use Rattle.druid_replay.specs.Serving.{AreFoundIn}
+use Rattle.druid_replay.specs.Execution.{AreFoundIn}
 
 only : (P : Type 0) → P ⊎ ⊥ → P
 only P (inl p) = p

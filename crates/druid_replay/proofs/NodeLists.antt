@@ -19,7 +19,7 @@ use Rattle.druid_sync_text.specs.declared.fault.SyncFault.{SyncFault}
 use Rattle.druid_sync_text.specs.declared.fault.SyncFault.TheVariants as replies
 use Rattle.druid_replay.specs.Commands.{Opening, Command, reply, lookup, marks, join, equal}
 use Rattle.druid_replay.specs.Nodes.{HaveOneList}
-use Rattle.druid_replay.specs.Serving.{TakesReply, Holds, JoinsInto, Does, Answers, IsAnswered, read_refusal, not_applied, not_joined}
+use Rattle.druid_replay.specs.Execution.{TakesReply, Holds, JoinsInto, Does, Answers, IsAnswered, read_refusal, not_applied, not_joined}
 use Rattle.druid_replay.specs.declared.answer.Refusal.{Refusal}
 use Rattle.druid_replay.specs.declared.answer.Refusal.TheVariants as refusals
 use Rattle.druid_replay.specs.declared.answer.CommandAnswer.{CommandAnswer}

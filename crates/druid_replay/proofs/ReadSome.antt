@@ -19,10 +19,10 @@ use Rattle.druid_segment_descriptor.specs.declared.change.Change.{Change}
 use Rattle.druid_segment_descriptor.specs.declared.reply.Body.{Body}
 use Rattle.druid_segment_descriptor.specs.declared.reply.Body.TheVariants.{Delta, Snapshot, Page, Reset}
 use Rattle.druid_base.specs.Each.{each_of}
-use Rattle.druid_sync_text.specs.Read.{Form, followed, whole, paged, begun_again, Five, mark_at, change_at, load_at, cause_at, none_in, five_at, reset_at, snapshot_at, delta_at, changes_at, page_at, paged_at, tells_page, unpaged_at, form_at, Answers}
+use Rattle.druid_sync_text.specs.Read.{Form, followed, whole, paged, begun_again, Five, mark_at, change_at, load_at, cause_at, none_in, five_at, reset_at, snapshot_at, delta_at, changes_at, page_at, paged_at, is_page_reply, unpaged_at, form_at, Answers}
 use Rattle.druid_sync_text.specs.declared.fault.SyncFault.{SyncFault}
 use Rattle.druid_sync_text.specs.declared.fault.SyncFault.TheVariants as faults
-use Rattle.druid_replay.specs.Serving.{read_refusal}
+use Rattle.druid_replay.specs.Execution.{read_refusal}
 use Rattle.druid_replay.specs.declared.answer.Refusal.{Refusal}
 use Rattle.druid_replay.specs.declared.answer.Refusal.TheVariants as refusals
 use Rattle.druid_replay.proofs.Decided.{Decided, own_decided, sorted_decided, in_order}
@@ -159,8 +159,8 @@ form_of_five d five marked false form e = unpaged_marked five marked five.reset 
 form_marked : (d : Data) (form : Form) → form_at d ≡ Some form → IsMarkedForm form
 unfolding form_at
 form_marked d =
-    each_next IsMarkedForm (five_at d) (λ five. cond (tells_page d) (paged_at d five) (unpaged_at five))
-    (λ five read. form_of_five d five (five_marked d five read) (tells_page d))
+    each_next IsMarkedForm (five_at d) (λ five. cond (is_page_reply d) (paged_at d five) (unpaged_at five))
+    (λ five read. form_of_five d five (five_marked d five read) (is_page_reply d))
 
 -- ---- answers
 

@@ -9,9 +9,9 @@ use Rattle.druid_stream.specs.declared.lines.Next.{Next}
 use Rattle.druid_stream.specs.declared.lines.Next.TheVariants.{Line, TooLong, End as AtEnd}
 use Rattle.druid_inventory.specs.Entry.{Entry}
 use Rattle.druid_replay.specs.Answers.{line_text}
-use Rattle.druid_replay.specs.Serving.{IsAnswered, IsBadFor, max_line}
+use Rattle.druid_replay.specs.Execution.{IsAnswered, IsBadFor, max_line}
 use Rattle.druid_replay.specs.Lines.{lines_of}
-use Rattle.druid_replay.specs.Runs.{End, done, bad_at, broken_at, IsFront, Runs, Writes, EndsBy, EndsFor, TellsLine}
+use Rattle.druid_replay.specs.Runs.{End, done, bad_at, broken_at, IsFront, Runs, Writes, EndsBy, EndsFor, ReportsLine}
 use Rattle.druid_replay.specs.declared.answer.CommandAnswer.{CommandAnswer}
 use Rattle.druid_replay.specs.declared.reason.BadLine.{BadLine}
 use Rattle.druid_replay.specs.declared.reason.BadLine.TheVariants.{TooLong as LineTooLong}
@@ -111,12 +111,12 @@ found_is_bad (Some ys) m state line why found bad = (found.0, subst (λ (xs : Li
 -- the fault of a line that was found
 pub reported_of : (fault : ReplayFault) (reason : Reason) (a l m b w v : Option (List ℕ)) (state : Option (List (List Entry))) (n : ℕ) (line : List ℕ)
     → UnderWay a l b w state n → IfSome l (λ ys. (0 < length ys) × (line ≡ line_at ys) × (m ≡ Some (drop_through 10 ys)))
-    → n < 2 ^ 64 → TellsLine state line n w v fault reason → EndsFor a b v fault reason
-reported_of (BadCommand k) reason a l m b w v state n line way found small tells =
-    let why = tells.1 in
-    (why, tells.2, subst (λ (i : ℕ). Writes a b v (bad_at i why)) (sym tells.0) (breaks a l b w v state n why way (found_is_bad l m state line why found tells.3) tells.4))
-reported_of (Device k) reason a l m b w v state n line way found small tells =
-    (n, tells.0 ∙ omega (arith, small), stops_inside a l m b w v state n line tells.1 way found tells.2 tells.3)
+    → n < 2 ^ 64 → ReportsLine state line n w v fault reason → EndsFor a b v fault reason
+reported_of (BadCommand k) reason a l m b w v state n line way found small reports =
+    let why = reports.1 in
+    (why, reports.2, subst (λ (i : ℕ). Writes a b v (bad_at i why)) (sym reports.0) (breaks a l b w v state n why way (found_is_bad l m state line why found reports.3) reports.4))
+reported_of (Device k) reason a l m b w v state n line way found small reports =
+    (n, reports.0 ∙ omega (arith, small), stops_inside a l m b w v state n line reports.1 way found reports.2 reports.3)
 
 -- a flush keeps what was written
 pub flushed : (a b w v : Option (List ℕ)) (end : End) → Writes a b w end → Keeps w v → Writes a b v end
@@ -159,10 +159,10 @@ found_line AtEnd l m line e found = absurd cc
 
 -- what a writer that failed has got of an answer
 pub reported_front : (state next : Option (List (List Entry))) (line : List ℕ) (answer : CommandAnswer) (number : ℕ) (reason : Reason) (w v : Option (List ℕ))
-    → IsAnswered state line answer next → AppendsFront w v (line_text answer) → TellsLine state line number w v (Device number) reason
+    → IsAnswered state line answer next → AppendsFront w v (line_text answer) → ReportsLine state line number w v (Device number) reason
 reported_front state next line answer number reason w v answered grown =
     (refl, grown.0, inr (answer, next, answered, grown.1, grown.2, grown.3), grown.4)
 
 -- before anything is written
-pub reported_nothing : (state : Option (List (List Entry))) (line : List ℕ) (number : ℕ) (reason : Reason) (w : Option (List ℕ)) → TellsLine state line number w w (Device number) reason
+pub reported_nothing : (state : Option (List (List Entry))) (line : List ℕ) (number : ℕ) (reason : Reason) (w : Option (List ℕ)) → ReportsLine state line number w w (Device number) reason
 reported_nothing state line number reason w = (refl, [], inl refl, Appends-nil w)

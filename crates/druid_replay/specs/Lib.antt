@@ -2,7 +2,7 @@
 pub mod Commands
 pub mod Reasons
 pub mod Answers
-pub mod Serving
+pub mod Execution
 pub mod Lines
 pub mod Runs
 pub mod Faults

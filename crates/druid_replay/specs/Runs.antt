@@ -3,7 +3,7 @@ use Rattle.std.specs.Prelude.{◌≡◌, ◌⊎◌, ℕ, ◌+◌, ◌-◌, ◌^�
 use Rattle.std.specs.Io.KnownBytes.{Appends, Keeps}
 use Rattle.druid_inventory.specs.Entry.{Entry}
 use Rattle.druid_replay.specs.Answers.{line_text}
-use Rattle.druid_replay.specs.Serving.{IsAnswered, IsBadFor}
+use Rattle.druid_replay.specs.Execution.{IsAnswered, IsBadFor}
 use Rattle.druid_replay.specs.Lines.{lines_of}
 use Rattle.druid_replay.specs.declared.answer.CommandAnswer.{CommandAnswer}
 use Rattle.druid_replay.specs.declared.reason.BadLine.{BadLine}
@@ -62,8 +62,8 @@ EndsFor input old new (BadCommand number) reason =
 EndsFor input old new (Device number) reason = EndsBy input old new (Device number)
 
 -- the same of one line
-abbrev pub TellsLine : Option (List (List Entry)) → List ℕ → ℕ → Option (List ℕ) → Option (List ℕ) → ReplayFault → Reason → Type 0
-TellsLine state line number old new (BadCommand reported) reason =
+abbrev pub ReportsLine : Option (List (List Entry)) → List ℕ → ℕ → Option (List ℕ) → Option (List ℕ) → ReplayFault → Reason → Type 0
+ReportsLine state line number old new (BadCommand reported) reason =
     (reported ≡ number) × (bad : BadLine) × (reason ≡ ForLine bad) × IsBadFor state line bad × Keeps old new
-TellsLine state line number old new (Device reported) reason =
+ReportsLine state line number old new (Device reported) reason =
     (reported ≡ number) × (out : List ℕ) × IsFront state line out × Appends old new out

@@ -2,10 +2,10 @@
 ghost use Rattle.std.specs.Prelude.{◌≡◌, ◌<◌, IfOk, OnErr, Some, length, replicate, slice_get, slice_set};
 ghost use Rattle.serde_json.specs.View.{view};
 ghost use Rattle.druid_replay.specs.Commands as commands;
-ghost use Rattle.druid_replay.specs.Serving.{CommandWants, Does};
+ghost use Rattle.druid_replay.specs.Execution.{CommandWants, Does};
 
 use crate::answer::CommandAnswer;
-use crate::serving::step;
+use crate::execution::step;
 use druid_inventory::Inventory;
 use serde_json::Value;
 use std::alloc::{AllocError, Global};

@@ -5,7 +5,7 @@ ghost use Rattle.druid_inventory.specs.Entry.{Entry};
 ghost use Rattle.druid_replay.specs.Commands.{opening_at, command_at};
 ghost use Rattle.druid_replay.specs.Nodes.{HaveOneList};
 ghost use Rattle.druid_replay.specs.Reasons.{opening_fault, command_fault, opening_rules, rules_at, IsFirst};
-ghost use Rattle.druid_replay.specs.Serving.{IsAnswered, IsBad};
+ghost use Rattle.druid_replay.specs.Execution.{IsAnswered, IsBad};
 ghost use Rattle.druid_replay.specs.Runs.{End, Runs, NoDeviceFails};
 ghost use Rattle.druid_replay.specs.declared.answer.CommandAnswer.{CommandAnswer};
 ghost use Rattle.druid_replay.specs.declared.answer.CommandAnswer.TheVariants.{Refused};

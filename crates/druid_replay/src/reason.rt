@@ -92,30 +92,30 @@ pub enum Reason {
 
 /// Why a run ends before the end of its input: its fault, and what ended it.
 #[derive(Clone, Copy, Debug, PartialEq, Eq, Drop)]
-pub struct Stop {
+pub struct ReplayStop {
     /// The fault.
     pub fault: ReplayFault,
     /// What ended it.
     pub reason: Reason,
 }
 
-impl Stop {
+impl ReplayStop {
     // The end at a bad line.
-    pub(crate) fn bad(line: u64, bad: BadLine) -> Stop
+    pub(crate) fn bad(line: u64, bad: BadLine) -> ReplayStop
         ensures fault { result.fault ≡ BadCommand line }
         ensures reason { result.reason ≡ ForLine bad }
     {
-        Stop {
+        ReplayStop {
             fault: ReplayFault::BadCommand(line),
             reason: Reason::Line(bad),
         }
     }
 
     // The end at a line where a device failed.
-    pub(crate) fn device(line: u64, reason: Reason) -> Stop
+    pub(crate) fn device(line: u64, reason: Reason) -> ReplayStop
         ensures { result.fault ≡ Device line }
     {
-        Stop {
+        ReplayStop {
             fault: ReplayFault::Device(line),
             reason,
         }

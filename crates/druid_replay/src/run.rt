@@ -4,15 +4,15 @@ ghost use Rattle.std.specs.Prelude.{◌≡◌, ◌≢◌, ◌≤◌, length, tak
 ghost use Rattle.std.specs.Io.KnownBytes.{Appends, Keeps};
 ghost use Rattle.std.specs.IoError.{error_kind};
 ghost use Rattle.druid_replay.specs.Answers.{line_text};
-ghost use Rattle.druid_replay.specs.Serving.{IsAnswered, max_line};
-ghost use Rattle.druid_replay.specs.Runs.{done, broken_at, Writes, EndsBy, EndsFor, TellsLine};
+ghost use Rattle.druid_replay.specs.Execution.{IsAnswered, max_line};
+ghost use Rattle.druid_replay.specs.Runs.{done, broken_at, Writes, EndsBy, EndsFor, ReportsLine};
 ghost use Rattle.druid_replay.specs.declared.answer.CommandAnswer.{CommandAnswer};
 
+use crate::answer_writer::write_answer;
 use crate::brokers::Brokers;
+use crate::execution::serve_line;
 use crate::fault::ReplayFault;
-use crate::reason::{BadLine, Reason, Stop};
-use crate::serving::serve_line;
-use crate::writing::write_answer;
+use crate::reason::{BadLine, Reason, ReplayStop};
 use druid_stream::{Next, next_line};
 use std::alloc::Global;
 use std::io;
@@ -40,23 +40,23 @@ fn answer_to<W: Write>(
     line: &[u8],
     number: u64,
     writer: &mut W,
-) -> Result<Option<Brokers>, Stop>
+) -> Result<Option<Brokers>, ReplayStop>
     requires { length line.now ≤ max_line }
     ensures ok { IfOk result (λ next. (answer : CommandAnswer) × IsAnswered state line.now answer next
         × Appends (W.contents writer.old) (W.contents writer.new) (line_text answer)) }
     ensures err { IfErr result
-        (λ stop. TellsLine state line.now number (W.contents writer.old) (W.contents writer.new) stop.fault stop.reason) }
+        (λ stop. ReportsLine state line.now number (W.contents writer.old) (W.contents writer.new) stop.fault stop.reason) }
 {
     let Ok(served) = serve_line(alloc, state, line) else {
-        return Err(Stop::device(number, Reason::Memory));
+        return Err(ReplayStop::device(number, Reason::Memory));
     };
     let (answer, next) = match served {
         Ok(served) => served,
-        Err(bad) => return Err(Stop::bad(number, bad)),
+        Err(bad) => return Err(ReplayStop::bad(number, bad)),
     };
     match write_answer(alloc, &answer, writer) {
         Ok(()) => Ok(next),
-        Err(error) => Err(Stop::device(number, reason_of(&error, Reason::Output))),
+        Err(error) => Err(ReplayStop::device(number, reason_of(&error, Reason::Output))),
     }
 }
 
@@ -66,7 +66,7 @@ fn answer_lines<R: BufRead, W: Write>(
     alloc: Global,
     reader: &mut R,
     writer: &mut W,
-) -> Result<u64, Stop>
+) -> Result<u64, ReplayStop>
     ensures ok { IfOk result (λ count.
         Writes (R.remaining reader.old) (W.contents writer.old) (W.contents writer.new) done
         × Writes (R.remaining reader.old) (W.contents writer.old) (W.contents writer.new)
@@ -79,9 +79,12 @@ fn answer_lines<R: BufRead, W: Write>(
     for count in 0..u64::MAX {
         match next_line(reader, &mut line, MAX_LINE) {
             Ok(Next::Line) => {}
-            Ok(Next::TooLong) => return Err(Stop::bad(count + 1, BadLine::TooLong)),
+            Ok(Next::TooLong) => return Err(ReplayStop::bad(count + 1, BadLine::TooLong)),
             Ok(Next::End) => return Ok(count),
-            Err(error) => return Err(Stop::device(count + 1, reason_of(&error, Reason::Input))),
+            Err(error) => return Err(ReplayStop::device(
+                count + 1,
+                reason_of(&error, Reason::Input),
+            )),
         }
         match answer_to(alloc, state, &line, count + 1, writer) {
             Ok(next) => state = next,
@@ -90,7 +93,7 @@ fn answer_lines<R: BufRead, W: Write>(
     }
     match next_line(reader, &mut line, MAX_LINE) {
         Ok(Next::End) => Ok(u64::MAX),
-        _ => Err(Stop::device(u64::MAX, Reason::TooManyLines)),
+        _ => Err(ReplayStop::device(u64::MAX, Reason::TooManyLines)),
     }
 }
 
@@ -105,7 +108,7 @@ pub fn replay_explained<R: BufRead, W: Write>(
     alloc: Global,
     reader: &mut R,
     writer: &mut W,
-) -> Result<(), Stop>
+) -> Result<(), ReplayStop>
     ensures ok { OnOk result
         (Writes (R.remaining reader.old) (W.contents writer.old) (W.contents writer.new) done) }
     ensures err { IfErr result
@@ -114,9 +117,12 @@ pub fn replay_explained<R: BufRead, W: Write>(
     let end = answer_lines(alloc, reader, writer);
     let flushed = writer.flush();
     match end {
-        Ok(count) if flushed.is_err() => Err(Stop::device(count.saturating_add(1), Reason::Output)),
+        Ok(count) if flushed.is_err() => Err(ReplayStop::device(
+            count.saturating_add(1),
+            Reason::Output,
+        )),
         Ok(_) => Ok(()),
-        Err(stop) if flushed.is_err() => Err(Stop {
+        Err(stop) if flushed.is_err() => Err(ReplayStop {
             fault: ReplayFault::Device(stop.fault.line()),
             reason: Reason::Output,
         }),

@@ -11,15 +11,15 @@ use Rattle.druid_segment_rows.specs.Rows.{Schema, Row, row_of, HasShape, IsInsid
 use Rattle.druid_segment_rows.specs.Segment.{Segment, IsSegment, segment_of, with_row, text_length, head_length, row_length, max_rows, max_text}
 use Rattle.druid_segment_file.specs.declared.fault.FileFault.{FileFault}
 use Rattle.druid_segment_file.specs.declared.fault.FileFault.TheVariants.{TooLong}
-use Rattle.druid_segment_file.specs.Spelling.{magic, row}
+use Rattle.druid_segment_file.specs.ByteParts.{magic, row}
 use Rattle.druid_time.specs.Results.{◌>>=◌}
 use Rattle.druid_segment_file.specs.declared.layout.Layout.{Layout}
 use Rattle.druid_segment_file.specs.declared.layout.Layout.TheVariants.{ByRows, ByColumns}
-use Rattle.druid_segment_file.specs.ColumnReading.{Columns, columns_at, rows_of, of_length, column_content_at}
-use Rattle.druid_segment_file.specs.Judging.{columns_length}
+use Rattle.druid_segment_file.specs.ColumnReader.{Columns, columns_at, rows_of, of_length, column_content_at}
+use Rattle.druid_segment_file.specs.FileRules.{columns_length}
 use Rattle.druid_segment_file.specs.Parts.{number_at, at_most, Shape, shape_of, each_at, values_at, rows_at, row_count_at}
-use Rattle.druid_segment_file.specs.Reading.{Cursor, row_content_at, content_at}
-use Rattle.druid_segment_file.specs.Building.{content_of, IsHead, IsWhole, IsWholeByColumns, IsWholeIn, IsJudged, HasRoom, with_read, CanBuild, IsBuilt}
+use Rattle.druid_segment_file.specs.Reader.{Cursor, row_content_at, content_at}
+use Rattle.druid_segment_file.specs.Builder.{content_of, IsHead, IsWhole, IsWholeByColumns, IsWholeIn, IsJudged, HasRoom, with_read, CanBuild, IsBuilt}
 use Rattle.druid_segment_file.specs.Borrowed.{bytes_of, texts_borrowed, values_borrowed}
 use Rattle.std.specs.Borrow.{Bor}
 use Rattle.druid_segment_file.proofs.PartLemmas.{IsBytes, IsBytes-take, IsBytes-drop, ok_is}

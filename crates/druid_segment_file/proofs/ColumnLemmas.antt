@@ -15,11 +15,11 @@ use Rattle.druid_segment_rows.specs.Columns.{column, value_at, across, AreLong}
 use Rattle.druid_segment_rows.specs.Segment.{Segment, segment_of, text_length, max_rows, max_text}
 use Rattle.druid_segment_rows.proofs.TableLemmas.{length_rows_in, rows_in_at, times_again, texts_again, numbers_again, text_cell, number_cell}
 use Rattle.druid_segment_file.specs.declared.fault.FileFault.{FileFault}
-use Rattle.druid_segment_file.specs.Spelling.{instant, descriptor, names}
-use Rattle.druid_segment_file.specs.ColumnSpelling.{column_magic, Coded, no_values, dimension, metric, numbers_of, IsCoded, AreCoded, column_spelling}
+use Rattle.druid_segment_file.specs.ByteParts.{instant, descriptor, names}
+use Rattle.druid_segment_file.specs.ColumnBytes.{column_magic, Coded, no_values, dimension, metric, numbers_of, IsCoded, AreCoded, column_spelling}
 use Rattle.druid_time.specs.Results.{◌>>=◌}
 use Rattle.druid_segment_file.specs.Parts.{at_most, each_at, row_count_at, row_time_at, Shape, shape_of}
-use Rattle.druid_segment_file.specs.ColumnReading.{dimension_at, metric_at, Columns, columns_at, decoded, rows_of, of_length, column_content_at}
+use Rattle.druid_segment_file.specs.ColumnReader.{dimension_at, metric_at, Columns, columns_at, decoded, rows_of, of_length, column_content_at}
 use Rattle.druid_segment_file.proofs.PartLemmas.{bind_ok, ok_is, at_most_ok, at_most_within, IsBytes, Takes, Takes-then, Reads, step_takes, step_again, wide32, number_read, IsText, AreEach, each_read}
 use Rattle.druid_segment_file.proofs.HeadLemmas.{descriptor_read, IsAnnounced}
 use Rattle.druid_segment_file.proofs.FieldLemmas.{fields_text, AreFields, fields_read}

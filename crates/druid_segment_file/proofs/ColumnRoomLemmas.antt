@@ -10,8 +10,8 @@ use Rattle.druid_segment_rows.specs.Rows.{Row}
 use Rattle.druid_segment_rows.specs.Columns.{column, IsDictionary}
 use Rattle.druid_segment_rows.specs.Segment.{Segment, number_value_length, head_length}
 use Rattle.druid_segment_rows.proofs.ColumnLemmas.{IsDictionary_unique, length_codes}
-use Rattle.druid_segment_file.specs.Spelling.{instant, names, descriptor}
-use Rattle.druid_segment_file.specs.ColumnSpelling.{column_magic, Coded, no_values, AreCoded, value, dimension, mark, present, metric, numbers_of, column_spelling}
+use Rattle.druid_segment_file.specs.ByteParts.{instant, names, descriptor}
+use Rattle.druid_segment_file.specs.ColumnBytes.{column_magic, Coded, no_values, AreCoded, value, dimension, mark, present, metric, numbers_of, column_spelling}
 use Rattle.druid_segment_file.specs.Heading.{heading_after}
 use Rattle.druid_segment_file.proofs.LengthLemmas.{length_five, length_descriptor, length_names}
 

@@ -10,8 +10,8 @@ use Rattle.druid_segment_rows.specs.Rows.{Row, max_value, AreShort, HasShortValu
 use Rattle.druid_segment_rows.specs.Columns.{column, IsDictionary, AreCodes}
 use Rattle.druid_segment_rows.specs.Segment.{Segment, IsSegment, max_text}
 use Rattle.druid_segment_rows.proofs.ColumnLemmas.{IsDictionary_unique, AreCodes_unique}
-use Rattle.druid_segment_file.specs.ColumnSpelling.{column_magic, Coded, no_values, IsCoded, AreCoded, dimension, metric, numbers_of, column_spelling, IsColumnSpelling}
-use Rattle.druid_segment_file.specs.Spelling.{instant}
+use Rattle.druid_segment_file.specs.ColumnBytes.{column_magic, Coded, no_values, IsCoded, AreCoded, dimension, metric, numbers_of, column_spelling, IsColumnSpelling}
+use Rattle.druid_segment_file.specs.ByteParts.{instant}
 use Rattle.druid_segment_file.specs.Heading.{heading_after, column_front}
 use Rattle.druid_segment_file.proofs.ColumnRoomLemmas.{length_column_spelling}
 use Rattle.std.proofs.KnownBytes.{Appends-nil}

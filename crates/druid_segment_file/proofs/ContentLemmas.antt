@@ -2,9 +2,9 @@
 use Rattle.std.proofs.Common.{◌≡◌, List, ◌++◌, ℕ, Ok, ap, subst, ◌∙◌, append_assoc}
 use Rattle.druid_segment_rows.specs.Segment.{Segment, segment_of}
 use Rattle.druid_segment_file.specs.declared.fault.FileFault.{FileFault}
-use Rattle.druid_segment_file.specs.Spelling.{magic, descriptor, names, rows, spelling}
+use Rattle.druid_segment_file.specs.ByteParts.{magic, descriptor, names, rows, spelling}
 use Rattle.druid_segment_file.specs.Parts.{shape_of}
-use Rattle.druid_segment_file.specs.Reading.{row_content_at}
+use Rattle.druid_segment_file.specs.Reader.{row_content_at}
 use Rattle.druid_segment_file.proofs.PartLemmas.{ok_is, IsBytes, Takes, Takes-then, step_takes, step_again}
 use Rattle.druid_segment_file.proofs.HeadLemmas.{IsAnnounced, descriptor_read}
 use Rattle.druid_segment_file.proofs.FieldLemmas.{fields_text, AreFields, fields_read}

@@ -20,10 +20,10 @@ use Rattle.druid_segment_rows.specs.Segment.{max_rows}
 use Rattle.druid_segment_rows.proofs.ColumnLemmas.{IsDictionary_unique, AreCodes_unique, one_code}
 use Rattle.druid_segment_rows.proofs.PlaceLemmas.{contains_value}
 use Rattle.druid_segment_file.specs.declared.fault.FileFault.{FileFault}
-use Rattle.druid_segment_file.specs.ColumnSpelling.{Coded, value, dimension, IsCoded}
+use Rattle.druid_segment_file.specs.ColumnBytes.{Coded, value, dimension, IsCoded}
 use Rattle.druid_time.specs.Results.{◌>>=◌}
 use Rattle.druid_segment_file.specs.Parts.{at_most}
-use Rattle.druid_segment_file.specs.ColumnReading.{is_above, value_text_at, value_texts_at, code_at, have_rows, codes_at, coded_at, dimension_at, decoded}
+use Rattle.druid_segment_file.specs.ColumnReader.{is_above, value_text_at, value_texts_at, code_at, have_rows, codes_at, coded_at, dimension_at, decoded}
 use Rattle.druid_segment_file.proofs.PartLemmas.{bind_ok, ok_is, at_most_ok, at_most_within, accepted_read, IsBytes, Takes, Takes-then, Reads, step_takes, step_again, wide32, number_read, IsText, text_read, AreEach, each_read}
 use Rattle.druid_segment_file.proofs.RowLemmas.{IsTextValue}
 

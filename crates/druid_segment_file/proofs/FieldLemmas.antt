@@ -16,7 +16,7 @@ use Rattle.druid_base.specs.Distinct.{AreDistinct}
 use Rattle.druid_segment_rows.specs.Rows.{Schema, IsSchema}
 use Rattle.druid_segment_rows.specs.Segment.{max_fields}
 use Rattle.druid_segment_file.specs.declared.fault.FileFault.{FileFault}
-use Rattle.druid_segment_file.specs.Spelling.{short_text, names}
+use Rattle.druid_segment_file.specs.ByteParts.{short_text, names}
 use Rattle.druid_time.specs.Results.{◌>>=◌}
 use Rattle.druid_segment_file.specs.Parts.{at_most, is_new_name, field_name_at, field_names_at, names_at, fields_at}
 use Rattle.druid_segment_file.proofs.TextLemmas.{is_field_name-is, is_field_name-true, no_field_name}

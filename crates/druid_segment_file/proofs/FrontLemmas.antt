@@ -12,12 +12,12 @@ use Rattle.druid_segment_rows.specs.Rows.{max_value}
 use Rattle.druid_segment_rows.specs.Segment.{Segment, segment_of, text_length, max_fields, max_rows, max_text}
 use Rattle.druid_segment_file.specs.declared.fault.FileFault.{FileFault}
 use Rattle.druid_segment_file.specs.declared.fault.FileFault.TheVariants.{Magic, Cut, Field, RowOutside, TooLong, Trailing, Read, Write, Memory}
-use Rattle.druid_segment_file.specs.Spelling.{magic}
-use Rattle.druid_segment_file.specs.ColumnSpelling.{column_magic}
+use Rattle.druid_segment_file.specs.ByteParts.{magic}
+use Rattle.druid_segment_file.specs.ColumnBytes.{column_magic}
 use Rattle.druid_time.specs.Results.{◌>>=◌}
 use Rattle.druid_segment_file.specs.Parts.{bytes_at, byte_at, number_at, signed_at, at_most, accepted, short_text_at, text_at, each_at, instant_of, moment_at, interval_at, name_at, version_at, core_at, descriptor_at, is_new_name, field_name_at, field_names_at, names_at, fields_at, instant_in, row_time_at, text_value_at, number_value_at, Shape, shape_of, values_at, row_count_at, rows_at}
-use Rattle.druid_segment_file.specs.ColumnReading.{is_above, value_text_at, value_texts_at, code_at, have_rows, codes_at, coded_at, dimension_at, mark_at, present_at, metric_at, columns_at, rows_of, of_length, column_content_at}
-use Rattle.druid_segment_file.specs.Reading.{GivesInMemory, row_content_at, content_in, content_at, short_of, segment_within, segment_at}
+use Rattle.druid_segment_file.specs.ColumnReader.{is_above, value_text_at, value_texts_at, code_at, have_rows, codes_at, coded_at, dimension_at, mark_at, present_at, metric_at, columns_at, rows_of, of_length, column_content_at}
+use Rattle.druid_segment_file.specs.Reader.{GivesInMemory, row_content_at, content_in, content_at, short_of, segment_within, segment_at}
 use Rattle.druid_segment_file.proofs.PartLemmas.{ok_is}
 
 -- the same value, with more bytes after it

@@ -10,7 +10,7 @@ use Rattle.druid_segment_id.proofs.NameLemmas.{is_name-true, is_version-true, is
 use Rattle.druid_segment_descriptor.specs.Described.{Described, IsDescribed, max_core}
 use Rattle.druid_segment_file.specs.declared.fault.FileFault.{FileFault}
 use Rattle.druid_segment_file.specs.declared.fault.FileFault.TheVariants.{Field}
-use Rattle.druid_segment_file.specs.Spelling.{number, instant, interval, short_text, descriptor}
+use Rattle.druid_segment_file.specs.ByteParts.{number, instant, interval, short_text, descriptor}
 use Rattle.druid_time.specs.Results.{◌>>=◌}
 use Rattle.druid_segment_file.specs.Parts.{instant_of, moment_at, interval_at, name_at, version_at, core_at, descriptor_at}
 use Rattle.druid_segment_file.proofs.MomentLemmas.{instant_of-unix_ms, of_instant, FitsSigned-unix_ms}

@@ -17,12 +17,12 @@ use Rattle.druid_segment_rows.specs.Segment.{text_value_length, number_value_len
 use Rattle.druid_segment_rows.proofs.PlaceLemmas.{marked_more, set_next}
 use Rattle.druid_segment_file.specs.declared.fault.FileFault.{FileFault}
 use Rattle.druid_segment_file.specs.declared.fault.FileFault.TheVariants.{Field}
-use Rattle.druid_segment_file.specs.ColumnSpelling.{Coded}
+use Rattle.druid_segment_file.specs.ColumnBytes.{Coded}
 use Rattle.druid_time.specs.Results.{◌>>=◌}
 use Rattle.druid_segment_file.specs.Parts.{number_at, signed_at, accepted, at_most, bytes_at, text_at, each_at, row_time_at, Shape}
-use Rattle.druid_segment_file.specs.Reading.{Cursor}
-use Rattle.druid_segment_file.specs.ColumnReading.{is_above, value_text_at, value_texts_at, code_at, codes_at, coded_at, dimension_at, have_rows, mark_at, present_at, metric_at, columns_at, decoded}
-use Rattle.druid_segment_file.specs.Judging.{Finds, code_length, AreMarked, ones, texts_length, numbers_length}
+use Rattle.druid_segment_file.specs.Reader.{Cursor}
+use Rattle.druid_segment_file.specs.ColumnReader.{is_above, value_text_at, value_texts_at, code_at, codes_at, coded_at, dimension_at, have_rows, mark_at, present_at, metric_at, columns_at, decoded}
+use Rattle.druid_segment_file.specs.FileRules.{Finds, code_length, AreMarked, ones, texts_length, numbers_length}
 use Rattle.druid_segment_file.proofs.PartLemmas.{bind_ok, guard_ok, ok_is, at_most_ok, accepted_ok, AreEach}
 use Rattle.druid_segment_file.proofs.DictionaryLemmas.{rows_found, rows_there}
 

@@ -9,12 +9,12 @@ use Rattle.druid_segment_rows.specs.Rows.{Schema}
 use Rattle.druid_segment_rows.specs.Segment.{segment_of}
 use Rattle.druid_segment_rows.specs.Columns.{value_at, IsDictionary, rows_in, AreLong}
 use Rattle.druid_segment_file.specs.declared.fault.FileFault.{FileFault}
-use Rattle.druid_segment_file.specs.ColumnSpelling.{Coded}
+use Rattle.druid_segment_file.specs.ColumnBytes.{Coded}
 use Rattle.druid_time.specs.Results.{◌>>=◌}
 use Rattle.druid_segment_file.specs.Parts.{number_at, signed_at, at_most, accepted, text_at, each_at, row_time_at, Shape}
-use Rattle.druid_segment_file.specs.ColumnReading.{is_above, value_text_at, value_texts_at, code_at, codes_at, coded_at, dimension_at, have_rows, mark_at, present_at, metric_at, Columns, columns_at, decoded, rows_of}
-use Rattle.druid_segment_file.specs.Reading.{Cursor}
-use Rattle.druid_segment_file.specs.Building.{present_value_at}
+use Rattle.druid_segment_file.specs.ColumnReader.{is_above, value_text_at, value_texts_at, code_at, codes_at, coded_at, dimension_at, have_rows, mark_at, present_at, metric_at, Columns, columns_at, decoded, rows_of}
+use Rattle.druid_segment_file.specs.Reader.{Cursor}
+use Rattle.druid_segment_file.specs.Builder.{present_value_at}
 use Rattle.druid_segment_file.proofs.PartLemmas.{bind_ok, ok_is, at_most_ok, accepted_ok, AreEach}
 use Rattle.druid_segment_file.proofs.LoopLemmas.{with_front}
 use Rattle.druid_segment_file.proofs.DictionaryLemmas.{AreAbove, above_sorted, is_dictionary}

@@ -7,7 +7,7 @@ use Rattle.std.proofs.lemmas.List.Sums.{sum_by-cons}
 use Rattle.druid_segment_descriptor.specs.Described.{Described}
 use Rattle.druid_segment_rows.specs.Rows.{Schema, Row}
 use Rattle.druid_segment_rows.specs.Segment.{Segment, text_value_length, number_value_length, row_length, names_length, head_length, text_length}
-use Rattle.druid_segment_file.specs.Spelling.{magic, instant, interval, short_text, names, descriptor, text_value, number_value, row, rows, spelling}
+use Rattle.druid_segment_file.specs.ByteParts.{magic, instant, interval, short_text, names, descriptor, text_value, number_value, row, rows, spelling}
 
 pub length_each : {A : Type 0} (spell : A → List ℕ) (len : A → ℕ) → ((x : A) → length (spell x) ≡ len x) → (xs : List A) → length (flat_map spell xs) ≡ sum (map len xs)
 length_each spell len same [] = refl

@@ -4,7 +4,7 @@ use Rattle.std.proofs.lemmas.List.{append-nil}
 use Rattle.druid_segment_file.specs.declared.fault.FileFault.{FileFault}
 use Rattle.druid_time.specs.Results.{◌>>=◌}
 use Rattle.druid_segment_file.specs.Parts.{each_at, field_name_at, field_names_at}
-use Rattle.druid_segment_file.specs.ColumnReading.{value_text_at, value_texts_at}
+use Rattle.druid_segment_file.specs.ColumnReader.{value_text_at, value_texts_at}
 
 -- what is made of the parts that were read before, and of those that are still read
 abbrev pub gathered : {A B : Type 0} → (List A → B) → List A → Result (List A × List ℕ) FileFault → Result (B × List ℕ) FileFault

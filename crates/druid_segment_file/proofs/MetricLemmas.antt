@@ -6,10 +6,10 @@ use Rattle.std.proofs.lemmas.List.{length-map}
 use Rattle.std.proofs.lemmas.List.Concat.{flat_map-cons}
 use Rattle.std.proofs.lemmas.List.Elements.{All-nil, All-cons, All-head, All-tail}
 use Rattle.druid_segment_file.specs.declared.fault.FileFault.{FileFault}
-use Rattle.druid_segment_file.specs.Spelling.{number}
-use Rattle.druid_segment_file.specs.ColumnSpelling.{mark, present, metric}
+use Rattle.druid_segment_file.specs.ByteParts.{number}
+use Rattle.druid_segment_file.specs.ColumnBytes.{mark, present, metric}
 use Rattle.druid_time.specs.Results.{◌>>=◌}
-use Rattle.druid_segment_file.specs.ColumnReading.{mark_at, present_at, metric_at}
+use Rattle.druid_segment_file.specs.ColumnReader.{mark_at, present_at, metric_at}
 use Rattle.druid_segment_file.proofs.PartLemmas.{bind_ok, ok_is, IsBytes, IsBytes-rest, Takes, Takes-then, Reads, step_takes, step_again, signed_read, AreEach, each_read}
 use Rattle.druid_segment_file.proofs.RowLemmas.{IsNumberValue}
 

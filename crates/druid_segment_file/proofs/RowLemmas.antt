@@ -11,7 +11,7 @@ use Rattle.druid_segment_rows.specs.Rows.{Row}
 use Rattle.druid_segment_rows.specs.Segment.{max_rows}
 use Rattle.druid_segment_file.specs.declared.fault.FileFault.{FileFault}
 use Rattle.druid_segment_file.specs.declared.fault.FileFault.TheVariants.{RowOutside}
-use Rattle.druid_segment_file.specs.Spelling.{number, instant, text_value, number_value, row, rows}
+use Rattle.druid_segment_file.specs.ByteParts.{number, instant, text_value, number_value, row, rows}
 use Rattle.druid_time.specs.Results.{◌>>=◌}
 use Rattle.druid_segment_file.specs.Parts.{at_most, each_at, instant_of, instant_in, row_time_at, text_value_at, number_value_at, Shape, values_at, rows_at}
 use Rattle.druid_segment_file.proofs.MomentLemmas.{instant_of-unix_ms, of_instant, FitsSigned-unix_ms}

@@ -12,13 +12,13 @@ use Rattle.druid_segment_rows.specs.Rows.{Schema, Row, HasShape, IsInside, HasSh
 use Rattle.druid_segment_rows.specs.Segment.{Segment, IsSegment, max_text, text_length}
 use Rattle.druid_segment_file.specs.declared.fault.FileFault.{FileFault}
 use Rattle.druid_segment_file.specs.declared.fault.FileFault.TheVariants.{Magic, Cut, Field, RowOutside, TooLong, Trailing, Read, Write, Memory}
-use Rattle.druid_segment_file.specs.Spelling.{magic, spelling, AreValues, Fits}
-use Rattle.druid_segment_file.specs.ColumnSpelling.{column_magic, Coded, AreCoded, column_spelling, IsColumnSpelling}
+use Rattle.druid_segment_file.specs.ByteParts.{magic, spelling, AreValues, Fits}
+use Rattle.druid_segment_file.specs.ColumnBytes.{column_magic, Coded, AreCoded, column_spelling, IsColumnSpelling}
 use Rattle.druid_segment_file.specs.Layouts.{IsFileOf}
 use Rattle.druid_time.specs.Results.{◌>>=◌}
 use Rattle.druid_segment_file.specs.Parts.{shape_of}
-use Rattle.druid_segment_file.specs.ColumnReading.{Columns, column_content_at}
-use Rattle.druid_segment_file.specs.Reading.{GivesInMemory, GivesOfReader, Cursor, row_content_at, content_in, content_at, short_of, segment_within, segment_at}
+use Rattle.druid_segment_file.specs.ColumnReader.{Columns, column_content_at}
+use Rattle.druid_segment_file.specs.Reader.{GivesInMemory, GivesOfReader, Cursor, row_content_at, content_in, content_at, short_of, segment_within, segment_at}
 use Rattle.druid_segment_file.proofs.PartLemmas.{bind_ok, passed_ok, IsBytes, IsBytes-take, Takes, Takes-then, step_takes, step_again, bytes_read}
 use Rattle.druid_segment_file.proofs.RowLemmas.{IsTextValue, IsRow}
 use Rattle.druid_segment_file.proofs.LengthLemmas.{length_spelling}

@@ -9,8 +9,8 @@ use Rattle.std.proofs.lemmas.List.FromFn.{get_or-map-range_with_len, length-map-
 use Rattle.druid_segment_rows.specs.Rows.{Row, row_of}
 use Rattle.druid_segment_rows.specs.Columns.{across, rows_in, AreLong}
 use Rattle.druid_segment_rows.specs.Segment.{text_value_length, number_value_length, row_length}
-use Rattle.druid_segment_file.specs.ColumnReading.{Columns, decoded, rows_of}
-use Rattle.druid_segment_file.specs.Judging.{texts_length, numbers_length, columns_length}
+use Rattle.druid_segment_file.specs.ColumnReader.{Columns, decoded, rows_of}
+use Rattle.druid_segment_file.specs.FileRules.{texts_length, numbers_length, columns_length}
 
 sum_cons : (x : ℕ) (xs : List ℕ) → sum (x ∷ xs) ≡ x + sum xs
 sum_cons x xs = sum_by-cons (λ (n : ℕ). n) x xs

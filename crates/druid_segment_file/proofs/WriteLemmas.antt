@@ -13,7 +13,7 @@ use Rattle.std.proofs.lemmas.List.{take-append-drop, take_all, take_more, flat_m
 use Rattle.std.proofs.lemmas.List.Concat.{flat_map-append}
 use Rattle.druid_segment_rows.specs.Rows.{Row, no_row, texts_of}
 use Rattle.druid_segment_rows.specs.Segment.{Segment, row_at}
-use Rattle.druid_segment_file.specs.Spelling.{magic, instant, interval, short_text, descriptor, names, text_value, number_value, row, spelling}
+use Rattle.druid_segment_file.specs.ByteParts.{magic, instant, interval, short_text, descriptor, names, text_value, number_value, row, spelling}
 use Rattle.druid_segment_file.specs.Heading.{heading}
 use Rattle.druid_segment_file.proofs.HeadLemmas.{described}
 use Rattle.druid_segment_file.proofs.LengthLemmas.{length_spelling}

@@ -4,8 +4,8 @@ use Rattle.std.specs.Int.{w32, to_be_bytes}
 use Rattle.std.specs.List.{flat_map}
 use Rattle.druid_segment_rows.specs.Rows.{Row}
 use Rattle.druid_segment_rows.specs.Segment.{Segment}
-use Rattle.druid_segment_file.specs.Spelling.{magic, instant, descriptor, names}
-use Rattle.druid_segment_file.specs.ColumnSpelling.{column_magic}
+use Rattle.druid_segment_file.specs.ByteParts.{magic, instant, descriptor, names}
+use Rattle.druid_segment_file.specs.ColumnBytes.{column_magic}
 
 -- up to the number of rows, after what a file of the layout begins with
 abbrev pub heading_after : List ℕ → Segment → List ℕ

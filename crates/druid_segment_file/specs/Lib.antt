@@ -1,13 +1,13 @@
 -- what public contracts rest on
-pub mod Spelling
-pub mod ColumnSpelling
+pub mod ByteParts
+pub mod ColumnBytes
 pub mod Layouts
 pub mod Parts
-pub mod ColumnReading
-pub mod Reading
+pub mod ColumnReader
+pub mod Reader
 -- words of private contracts
 pub mod Written
-pub mod Building
-pub mod Judging
+pub mod Builder
+pub mod FileRules
 pub mod Heading
 pub mod Borrowed

@@ -5,10 +5,10 @@ ghost use Rattle.std.specs.Option.{option_map};
 ghost use Rattle.druid_segment_rows.specs.Numbering.{with_mark};
 ghost use Rattle.druid_segment_rows.specs.Segment.{max_fields, max_rows};
 ghost use Rattle.druid_segment_file.specs.Parts.{each_at, row_time_at};
-ghost use Rattle.druid_segment_file.specs.ColumnReading.{is_above, value_text_at, value_texts_at, code_at, coded_at, dimension_at, mark_at, metric_at, columns_at, decoded};
-ghost use Rattle.druid_segment_file.specs.Reading.{TakesAs};
-ghost use Rattle.druid_segment_file.specs.Building.{Skips};
-ghost use Rattle.druid_segment_file.specs.Judging.{Finds, code_length, AreMarked, ones, texts_length, numbers_length, columns_length};
+ghost use Rattle.druid_segment_file.specs.ColumnReader.{is_above, value_text_at, value_texts_at, code_at, coded_at, dimension_at, mark_at, metric_at, columns_at, decoded};
+ghost use Rattle.druid_segment_file.specs.Reader.{TakesAs};
+ghost use Rattle.druid_segment_file.specs.Builder.{Skips};
+ghost use Rattle.druid_segment_file.specs.FileRules.{Finds, code_length, AreMarked, ones, texts_length, numbers_length, columns_length};
 ghost use Rattle.druid_segment_file.specs.Borrowed.{bytes_of};
 
 use crate::FileFault;
@@ -57,7 +57,7 @@ fn code_length(code: u32, lens: &[u16]) -> usize
 
 impl<'a> Cursor<'a> {
     // A text of a dictionary, after that one.
-    #[tactic(auto, unfolding(crate::specs::ColumnReading::value_text_at, crate::specs::Parts::accepted))]
+    #[tactic(auto, unfolding(crate::specs::ColumnReader::value_text_at, crate::specs::Parts::accepted))]
     pub(crate) fn value_text(&mut self, last: Option<&str>) -> Result<&'a str, FileFault>
         ensures { TakesAs (λ text. text.now) self.old self.new result
             (value_text_at self.old.short (option_map bytes_of last.entry) self.old.rest) }
@@ -70,7 +70,7 @@ impl<'a> Cursor<'a> {
     }
 
     // The code of null, or of one of so many texts.
-    #[tactic(auto, unfolding(crate::specs::ColumnReading::code_at, crate::specs::Parts::accepted))]
+    #[tactic(auto, unfolding(crate::specs::ColumnReader::code_at, crate::specs::Parts::accepted))]
     pub(crate) fn code(&mut self, count: usize) -> Result<u32, FileFault>
         ensures { TakesAs (λ code. code) self.old self.new result (code_at self.old.short count self.old.rest) }
     {
@@ -82,7 +82,7 @@ impl<'a> Cursor<'a> {
     }
 
     // Whether a row has a number.
-    #[tactic(auto, unfolding(crate::specs::ColumnReading::mark_at, crate::specs::Parts::byte_at))]
+    #[tactic(auto, unfolding(crate::specs::ColumnReader::mark_at, crate::specs::Parts::byte_at))]
     pub(crate) fn mark(&mut self) -> Result<bool, FileFault>
         ensures { TakesAs (λ mark. mark) self.old self.new result (mark_at self.old.short self.old.rest) }
     {
@@ -201,7 +201,7 @@ impl<'a> Cursor<'a> {
         self.texts_length(rows, &mut lens[..count], &mut marks[..count])
     }
 
-    #[tactic(auto, unfolding(crate::specs::ColumnReading::dimension_at))]
+    #[tactic(auto, unfolding(crate::specs::ColumnReader::dimension_at))]
     fn dimension_length(&mut self, rows: usize) -> Result<usize, FileFault>
         requires { rows ≤ max_rows }
         ensures found { Finds (λ len coded. len ≡ texts_length (decoded coded)) self.old self.new result
@@ -258,7 +258,7 @@ impl<'a> Cursor<'a> {
 
     // The length of the rows of these columns in a spelling in rows, without their number. Each column is judged, and
     // none kept.
-    #[tactic(auto, unfolding(crate::specs::ColumnReading::columns_at))]
+    #[tactic(auto, unfolding(crate::specs::ColumnReader::columns_at))]
     pub(crate) fn columns_length(&mut self, shape: Shape, rows: usize) -> Result<usize, FileFault>
         requires { rows ≤ max_rows }
         ensures found { Finds (λ len columns. len ≡ columns_length columns) self.old self.new result

@@ -2,7 +2,7 @@
 ghost use Rattle.std.specs.Prelude.{◌≡◌, ◌↔◌, ◌+◌, ◌-◌, ◌*◌, ◌≤◌, List, length, IsTrue, SomeIff};
 ghost use Rattle.std.specs.List.{flat_map, range_with_len};
 ghost use Rattle.druid_segment_rows.specs.Segment.{max_rows, max_text, number_value_length};
-ghost use Rattle.druid_segment_file.specs.ColumnSpelling.{Coded, AreCoded, value, dimension, metric, numbers_of, column_spelling};
+ghost use Rattle.druid_segment_file.specs.ColumnBytes.{Coded, AreCoded, value, dimension, metric, numbers_of, column_spelling};
 
 use druid_segment_rows::{Numbers, Segment, Texts};
 

@@ -3,7 +3,7 @@ ghost use Rattle.std.specs.Prelude.{◌≡◌, ◌==◌, length};
 ghost use Rattle.std.specs.Int.{w16, w32, w64};
 ghost use Rattle.std.specs.Str.{is_utf8};
 ghost use Rattle.druid_segment_file.specs.Parts.{bytes_at, byte_at, number_at, signed_at, at_most, accepted, short_text_at, text_at};
-ghost use Rattle.druid_segment_file.specs.Reading.{Gives, GivesAs, TakesAs};
+ghost use Rattle.druid_segment_file.specs.Reader.{Gives, GivesAs, TakesAs};
 
 use crate::FileFault;
 use druid_segment_rows::MAX_VALUE;
@@ -18,7 +18,7 @@ pub(crate) struct Cursor<'a> {
 }
 
 impl<'a> Model for Cursor<'a> {
-    ghost use Rattle.druid_segment_file.specs.Reading.{Cursor};
+    ghost use Rattle.druid_segment_file.specs.Reader.{Cursor};
 
     ghost Value = { Cursor };
 

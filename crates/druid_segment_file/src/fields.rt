@@ -4,7 +4,7 @@ ghost use Rattle.std.specs.List.{list_any};
 ghost use Rattle.druid_segment_rows.specs.Rows.{texts_of};
 ghost use Rattle.druid_segment_rows.specs.Segment.{max_fields};
 ghost use Rattle.druid_segment_file.specs.Parts.{accepted, is_new_name, field_name_at, field_names_at, names_at, fields_at};
-ghost use Rattle.druid_segment_file.specs.Reading.{GivesAs, TakesAs};
+ghost use Rattle.druid_segment_file.specs.Reader.{GivesAs, TakesAs};
 ghost use Rattle.druid_segment_file.specs.Borrowed.{texts_borrowed};
 
 use crate::FileFault;

@@ -3,7 +3,7 @@ ghost use Rattle.std.specs.Prelude.{◌≡◌, ◌≤◌, ok_or, IfOk};
 ghost use Rattle.druid_segment_id.specs.Names.{is_name, is_version, IsName, IsVersion};
 ghost use Rattle.druid_segment_descriptor.specs.Described.{max_core};
 ghost use Rattle.druid_segment_file.specs.Parts.{accepted, instant_of, moment_at, interval_at, name_at, version_at, core_at, descriptor_at};
-ghost use Rattle.druid_segment_file.specs.Reading.{Gives, GivesAs, TakesAs};
+ghost use Rattle.druid_segment_file.specs.Reader.{Gives, GivesAs, TakesAs};
 
 use crate::FileFault;
 use crate::cursor::Cursor;

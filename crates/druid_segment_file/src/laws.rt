@@ -1,9 +1,9 @@
 //! Facts that hold of all segments.
 ghost use Rattle.std.specs.Prelude.{◌≡◌, ◌≢◌, ◌<◌, ◌≤◌, ℕ, List, ◌++◌, length, take, Ok, Err};
 ghost use Rattle.druid_segment_rows.specs.Segment.{Segment, IsSegment, text_length, max_text};
-ghost use Rattle.druid_segment_file.specs.Spelling.{spelling, Fits};
-ghost use Rattle.druid_segment_file.specs.ColumnSpelling.{IsColumnSpelling};
-ghost use Rattle.druid_segment_file.specs.Reading.{segment_at};
+ghost use Rattle.druid_segment_file.specs.ByteParts.{spelling, Fits};
+ghost use Rattle.druid_segment_file.specs.ColumnBytes.{IsColumnSpelling};
+ghost use Rattle.druid_segment_file.specs.Reader.{segment_at};
 ghost use Rattle.druid_segment_file.specs.declared.fault.FileFault.{FileFault};
 ghost use Rattle.druid_segment_file.specs.declared.fault.FileFault.TheVariants.{Cut, Trailing};
 

@@ -1,11 +1,11 @@
 //! The layouts of segment files, and what a file in each begins with.
 ghost use Rattle.std.specs.Prelude.{◌≡◌, ◌+◌, length, drop, Err, IfOk, IfErr};
-ghost use Rattle.druid_segment_file.specs.Reading.{content_at};
-ghost use Rattle.druid_segment_file.specs.Building.{content_of};
+ghost use Rattle.druid_segment_file.specs.Reader.{content_at};
+ghost use Rattle.druid_segment_file.specs.Builder.{content_of};
 
 use crate::FileFault;
+use crate::byte_parts::{COLUMN_MAGIC, MAGIC};
 use crate::cursor::Cursor;
-use crate::spelling::{COLUMN_MAGIC, MAGIC};
 
 // Whether the rows follow each other, or their columns.
 #[derive(Clone, Copy)]
@@ -16,7 +16,7 @@ pub(crate) enum Layout {
 
 impl<'a> Cursor<'a> {
     // The layout that the bytes begin with the name of.
-    #[tactic(auto, unfolding(crate::specs::Reading::content_at, crate::specs::Reading::content_in, crate::specs::Parts::bytes_at))]
+    #[tactic(auto, unfolding(crate::specs::Reader::content_at, crate::specs::Reader::content_in, crate::specs::Parts::bytes_at))]
     pub(crate) fn layout(&mut self) -> Result<Layout, FileFault>
         ensures content { IfOk result (λ layout. content_at self.old.short self.old.rest ≡ content_of layout self.new.short self.new.rest) }
         ensures rest { IfOk result (λ layout. self.new.rest ≡ drop 4 self.old.rest) }

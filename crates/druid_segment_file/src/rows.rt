@@ -4,8 +4,8 @@ ghost use Rattle.std.specs.Option.{option_map};
 ghost use Rattle.druid_segment_rows.specs.Rows.{row_of};
 ghost use Rattle.druid_segment_rows.specs.Segment.{max_fields};
 ghost use Rattle.druid_segment_file.specs.Parts.{instant_of, instant_in, row_time_at, text_value_at, number_value_at, each_at, values_at};
-ghost use Rattle.druid_segment_file.specs.Reading.{Gives, TakesAs};
-ghost use Rattle.druid_segment_file.specs.Building.{Skips, HasRoom, with_read};
+ghost use Rattle.druid_segment_file.specs.Reader.{Gives, TakesAs};
+ghost use Rattle.druid_segment_file.specs.Builder.{Skips, HasRoom, with_read};
 ghost use Rattle.druid_segment_file.specs.Borrowed.{bytes_of, values_borrowed};
 
 use crate::FileFault;

@@ -73,17 +73,17 @@ identifier_at source text = do
   Ok (record { source = source; interval = interval; version = version; partition = partition })
 
 -- the fault that tells a refusal
-abbrev pub Tells : {A : Type 0} → IdFault → Result A Refusal → Type 0
-Tells faults.OtherSource read = read ≡ Err other_source
-Tells faults.BadParts read = read ≡ Err bad_parts
-Tells faults.BadInterval read = read ≡ Err bad_interval
-Tells faults.BadVersion read = read ≡ Err bad_version
-Tells faults.BadPartition read = read ≡ Err bad_partition
-Tells faults.BadName read = ⊥
+abbrev pub Reports : {A : Type 0} → IdFault → Result A Refusal → Type 0
+Reports faults.OtherSource read = read ≡ Err other_source
+Reports faults.BadParts read = read ≡ Err bad_parts
+Reports faults.BadInterval read = read ≡ Err bad_interval
+Reports faults.BadVersion read = read ≡ Err bad_version
+Reports faults.BadPartition read = read ≡ Err bad_partition
+Reports faults.BadName read = ⊥
 -- out of memory only where nothing else is refused
-Tells faults.Memory read = IsOk read
+Reports faults.Memory read = IsOk read
 
 -- what a function answered is what reading gives, unless memory was refused
 abbrev pub Gives : {A : Type 0} → Result A IdFault → Result A Refusal → Type 0
 Gives (Ok x) read = read ≡ Ok x
-Gives (Err e) read = Tells e read
+Gives (Err e) read = Reports e read

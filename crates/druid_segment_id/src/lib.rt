@@ -9,9 +9,9 @@ mod laws;
 mod meter;
 mod name;
 mod order;
-mod parsing;
-mod spelling;
+mod parser;
 mod text;
+mod text_parts;
 mod version;
 
 pub use fault::IdFault;

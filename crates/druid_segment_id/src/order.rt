@@ -8,7 +8,7 @@ ghost use Rattle.druid_segment_id.specs.Identifier.{IsIdentifier, identifier_tex
 ghost use Rattle.druid_segment_id.specs.IdentifierLaws as order;
 
 use crate::SegmentId;
-use crate::spelling::{LONGEST, LONGEST_SUFFIX, append_suffix};
+use crate::text_parts::{LONGEST, LONGEST_SUFFIX, append_suffix};
 use std::cmp::Ordering;
 
 // Compares a text with two that stand one after the other.

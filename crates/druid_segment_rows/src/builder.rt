@@ -120,7 +120,7 @@ impl SegmentBuilder {
             ↔ (IsWithinLimits (with_row self.old row.now) × HasShape self.old.fields row.now
             × (¬ IsInside self.old.descriptor.id.interval row.now)) }
     {
-        self.push_ref(&row.lend())
+        self.push_ref(&row.as_row_ref())
     }
 
     /// Adds a row of these values after the others. Each text is copied once, to where it stays.

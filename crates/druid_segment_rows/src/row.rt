@@ -64,7 +64,7 @@ impl Row {
     }
 
     // Its values, borrowed.
-    pub(crate) fn lend(&self) -> RowRef<'_, String>
+    pub(crate) fn as_row_ref(&self) -> RowRef<'_, String>
         ensures { result ≡ self.now }
     {
         RowRef::new(self.time, &self.dimensions, &self.metrics)

@@ -61,7 +61,7 @@ fn room_after_rows(rows: &[Row], mut room: usize) -> Option<usize>
     ensures words { OnSome result (All HasWords rows.now) }
 {
     for row in rows {
-        room = row.lend().room_after(room)?;
+        room = row.as_row_ref().room_after(room)?;
     }
     Some(room)
 }
@@ -69,7 +69,7 @@ fn room_after_rows(rows: &[Row], mut room: usize) -> Option<usize>
 fn have_short_values(rows: &[Row]) -> bool
     ensures { IsTrue result ↔ All HasShortValues rows.now }
 {
-    rows.iter().all(|row| row.lend().has_short_values())
+    rows.iter().all(|row| row.as_row_ref().has_short_values())
 }
 
 // The room that is left in the text of a segment. None where a limit is passed.
@@ -90,7 +90,7 @@ fn room_left(descriptor: &Descriptor, schema: &Schema, rows: &[Row]) -> Option<u
 fn have_shape(schema: &Schema, rows: &[Row]) -> bool
     ensures { IsTrue result ↔ All (HasShape schema.now) rows.now }
 {
-    rows.iter().all(|row| schema.fits(&row.lend()))
+    rows.iter().all(|row| schema.fits(&row.as_row_ref()))
 }
 
 fn are_inside(interval: Interval, rows: &[Row]) -> bool

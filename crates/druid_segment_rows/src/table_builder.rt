@@ -267,7 +267,7 @@ pub(crate) fn table_of_rows(
 {
     let mut table = TableBuilder::new(alloc, dimensions, metrics)?;
     for row in rows {
-        table.push(&row.lend())?;
+        table.push(&row.as_row_ref())?;
     }
     table.finish()
 }

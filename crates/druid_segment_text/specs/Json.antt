@@ -124,15 +124,15 @@ descriptor_at d = do
   Ok (record { id = segment.id; core = segment.core; size = segment.size; tombstone = tombstone })
 
 -- the fault that tells a refusal
-abbrev pub Tells : {A : Type 0} → ShardFault → Result A Refusal → Type 0
-Tells faults.ShardType read = read ≡ Err other_type
-Tells faults.BadShard read = read ≡ Err bad_shard
-Tells (faults.BadField key) read = read ≡ Err (bad_field key.now)
-Tells faults.BadTombstone read = read ≡ Err bad_tombstone
+abbrev pub Reports : {A : Type 0} → ShardFault → Result A Refusal → Type 0
+Reports faults.ShardType read = read ≡ Err other_type
+Reports faults.BadShard read = read ≡ Err bad_shard
+Reports (faults.BadField key) read = read ≡ Err (bad_field key.now)
+Reports faults.BadTombstone read = read ≡ Err bad_tombstone
 -- out of memory only where nothing else is refused
-Tells faults.Memory read = IsOk read
+Reports faults.Memory read = IsOk read
 
 -- what a function answered is what reading gives, unless memory was refused
 abbrev pub Gives : {A : Type 0} → Result A ShardFault → Result A Refusal → Type 0
 Gives (Ok x) read = read ≡ Ok x
-Gives (Err e) read = Tells e read
+Gives (Err e) read = Reports e read

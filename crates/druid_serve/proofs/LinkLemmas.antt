@@ -44,7 +44,7 @@ query_lead : (nodes : List Node) (order : List ℕ → List ℕ) (inventory : Li
     → AnswersQuery Over order inventory bytes old new status body → LeadTo nodes old → LeadTo nodes new
 query_lead nodes order inventory bytes old new status body (inl (asked, is, answers)) lead =
     made_lead nodes asked answers.exchanges old new answers.made lead
-query_lead nodes order inventory bytes old new status body (inr (fault, other, is, tells, same)) lead = stays nodes old new same lead
+query_lead nodes order inventory bytes old new status body (inr (fault, other, is, reports, same)) lead = stays nodes old new same lead
 
 memory_lead : (nodes : List Node) (order : List ℕ → List ℕ) (inventory : List Entry) (bytes : List ℕ) (old new : List NodeLinkValue)
     → WantsMemory Over order inventory bytes old new → LeadTo nodes old → LeadTo nodes new
@@ -57,17 +57,17 @@ post_lead : (nodes : List Node) (order : List ℕ → List ℕ) (posts : Bool) (
     → AnswersPost Over order posts inventory bytes old new status body → LeadTo nodes old → LeadTo nodes new
 post_lead nodes order true inventory bytes old new status body (inl answers) lead = query_lead nodes order inventory bytes old new status body answers lead
 post_lead nodes order true inventory bytes old new status body (inr (wants, out)) lead = memory_lead nodes order inventory bytes old new wants lead
-post_lead nodes order false inventory bytes old new status body (tells, same) lead = stays nodes old new same lead
+post_lead nodes order false inventory bytes old new status body (reports, same) lead = stays nodes old new same lead
 
 route_lead : (nodes : List Node) (order : List ℕ → List ℕ) (route : Route) (inventory : List Entry) (old new : List NodeLinkValue) (request : RequestValue) (status : ℕ) (body : List ℕ)
     → AnswersAt Over order route inventory old new request status body → LeadTo nodes old → LeadTo nodes new
 route_lead nodes order query inventory old new request status body answers lead =
     post_lead nodes order (bytes_eq request.method (codes "POST")) inventory request.body old new status body answers lead
-route_lead nodes order health inventory old new request status body (tells, same) lead = stays nodes old new same lead
-route_lead nodes order sources inventory old new request status body (tells, same) lead = stays nodes old new same lead
-route_lead nodes order load_status inventory old new request status body (tells, same) lead = stays nodes old new same lead
-route_lead nodes order (entry node) inventory old new request status body (tells, same) lead = stays nodes old new same lead
-route_lead nodes order nowhere inventory old new request status body (tells, same) lead = stays nodes old new same lead
+route_lead nodes order health inventory old new request status body (reports, same) lead = stays nodes old new same lead
+route_lead nodes order sources inventory old new request status body (reports, same) lead = stays nodes old new same lead
+route_lead nodes order load_status inventory old new request status body (reports, same) lead = stays nodes old new same lead
+route_lead nodes order (entry node) inventory old new request status body (reports, same) lead = stays nodes old new same lead
+route_lead nodes order nowhere inventory old new request status body (reports, same) lead = stays nodes old new same lead
 
 responds_lead : (nodes : List Node) (order : List ℕ → List ℕ) (opening : List Entry) (route : Route) (seen now : Published) (old new : List NodeLinkValue) (request : RequestValue) (status : ℕ) (body : List ℕ)
     → RespondsAt Over order opening route seen now old new request status body → LeadTo nodes old → LeadTo nodes new

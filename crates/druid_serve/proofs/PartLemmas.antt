@@ -8,7 +8,7 @@ use Rattle.druid_serve.specs.Served.{PrintsIf}
 use Rattle.std.specs.List.{range_with_len}
 use Rattle.std.proofs.lemmas.List.{map-id, map-append, append-nil}
 use Rattle.std.proofs.lemmas.List.{length-map}
-use Rattle.druid_serve.specs.declared.serving.Listening.{Listening}
+use Rattle.druid_serve.specs.declared.cluster.Listening.{Listening}
 use Rattle.std.proofs.lemmas.List.FromFn.{filter_of_map_range_with_len_more}
 
 more : (p : ℕ → Bool) (k : ℕ) → filter p (range_with_len 0 (k + 1)) ≡ filter p (range_with_len 0 k) ++ cond (p k) (k ∷ []) []

@@ -306,7 +306,7 @@ fn start_syncers<
 
 // What threads of a broker share: how its nodes do, what is counted of its turns with them and of its connections.
 #[derive(Drop)]
-struct Counted {
+struct BrokerCounts {
     gate: Arc<Gate, Global>,
     health: Arc<Health, Global>,
     followed: Arc<Vec<FollowedNode>, Global>,
@@ -318,13 +318,13 @@ fn counted_of(
     nodes: &[NodeConfig],
     count: u16,
     patience: u64,
-) -> Result<Counted, DeviceFailed>
+) -> Result<BrokerCounts, DeviceFailed>
     requires { count ≤ max_nodes }
     ensures followed { IfOk result (λ counted. vec_len (arc_value counted.followed) ≡ length nodes.now) }
     ensures patience { IfOk result (λ counted. (arc_value counted.health).patience ≡ patience) }
 {
     let health = Health::new(alloc, count, patience)?;
-    Ok(Counted {
+    Ok(BrokerCounts {
         gate: Arc::new(alloc, Gate::new())?,
         health: Arc::new(alloc, health)?,
         followed: Arc::new(alloc, followed_nodes(alloc, nodes)?)?,
@@ -345,13 +345,13 @@ fn start_workers<
     nodes: &[NodeConfig],
     publisher: &Shared<J, R>,
     telemetry: &Telemetry,
-    counted: &Counted,
+    counted: &BrokerCounts,
 ) -> Result<(), DeviceFailed>
     requires cluster { nodes.now ≡ C.nodes }
     requires nodes { length nodes.now ≤ max_nodes }
     requires there { length nodes.now ≡ length J.opening }
 {
-    let Counted {
+    let BrokerCounts {
         gate,
         health,
         followed,
@@ -432,7 +432,7 @@ pub(crate) fn start_broker<
     start_workers::<R, J, C>(
         rt, alloc, front, listener, views, nodes, &publisher, &telemetry, &counted,
     )?;
-    let Counted {
+    let BrokerCounts {
         gate,
         health,
         followed,

@@ -9,11 +9,11 @@
 #![tactic(auto)]
 
 mod broker;
+mod cluster;
 mod links;
-mod live;
-mod serving;
+mod live_cluster;
 mod status;
 mod worker;
 
+pub use cluster::serve;
 pub use druid_serve_base::{PEER_SECONDS, ServeFault};
-pub use serving::serve;

@@ -74,7 +74,7 @@ impl Service {
     }
 
     // Logs how many exchanges with a node met a limit of 16 MiB, where some did.
-    fn tell_met<R: Wait + Clock>(
+    fn report_met<R: Wait + Clock>(
         &self,
         rt: &R,
         alloc: Global,
@@ -88,18 +88,18 @@ impl Service {
                 code,
                 exchanges,
             };
-            self.telemetry.tell(rt, alloc, &event);
+            self.telemetry.emit(rt, alloc, &event);
         }
     }
 
     // Logs what met a limit of 16 MiB since that was last logged, of each node.
-    fn tell_oversize<R: Wait + Clock>(&self, rt: &R, alloc: Global, health: &Health) {
+    fn report_oversize<R: Wait + Clock>(&self, rt: &R, alloc: Global, health: &Health) {
         let mut number: NodeNo = 0;
         let nodes: &[FollowedNode] = &self.nodes;
         for node in nodes {
             if let Some(oversize) = health.take_oversize(number) {
-                self.tell_met(rt, alloc, node, "TooLarge", oversize.answers);
-                self.tell_met(rt, alloc, node, "X7", oversize.questions);
+                self.report_met(rt, alloc, node, "TooLarge", oversize.answers);
+                self.report_met(rt, alloc, node, "X7", oversize.questions);
             }
             number = number.saturating_add(1);
         }
@@ -140,7 +140,7 @@ fn serve<
         &mut worker.links,
     );
     worker.health.release(nodes);
-    service.tell_oversize(rt, alloc, &worker.health);
+    service.report_oversize(rt, alloc, &worker.health);
     served
 }
 

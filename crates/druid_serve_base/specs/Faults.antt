@@ -27,7 +27,7 @@ of_node node.NameDiffers = BadFolder
 of_node node.NotPartitionZero = BadFolder
 of_node (node.History fault) = BadFolder
 of_node node.NoFile = BadFolder
-of_node (node.Behind found) = BadFolder
+of_node (node.Stale found) = BadFolder
 
 -- what is named is the file of that name, which was refused for that
 abbrev pub NamesFile : List ℕ → NodeFault → Cause → Type 0

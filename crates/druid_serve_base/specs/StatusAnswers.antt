@@ -7,7 +7,7 @@ use Rattle.druid_telemetry_metrics.specs.Response.{response_text}
 use Rattle.druid_telemetry_metrics.specs.declared.route.Route.{Route}
 use Rattle.druid_telemetry_metrics.specs.declared.route.Route.TheVariants.{Health, Metrics, Query, Datasources, LoadStatus, Segments, Inventory, Other}
 use Rattle.druid_http_wire.specs.Messages.{IsRequest}
-use Rattle.druid_http_wire.specs.Served.{Tells, Gets, IsOutOfMemory, IsSent, IsRefused}
+use Rattle.druid_http_wire.specs.Served.{Reports, Gets, IsOutOfMemory, IsSent, IsRefused}
 use Rattle.druid_serve_base.specs.declared.status.StatusAnswer.{StatusAnswer}
 use Rattle.druid_serve_base.specs.declared.status.StatusAnswer.TheVariants.{Page, Short}
 
@@ -26,25 +26,25 @@ IsPage (Page text) = ⊤
 IsPage (Short response) = IsOutOfMemory response.status response.body
 
 abbrev pub LeadsNowhere : ℕ → List ℕ → Type 0
-LeadsNowhere status body = Tells 404 (codes "{\"error\":\"NoRoute\"}") status body
+LeadsNowhere status body = Reports 404 (codes "{\"error\":\"NoRoute\"}") status body
 
 -- whether each node was synced
-abbrev pub TellsLoad : ℕ → List ℕ → Type 0
-TellsLoad status body = (loaded : Bool) × Tells 200 (loaded_text loaded) status body
+abbrev pub ReportsLoad : ℕ → List ℕ → Type 0
+ReportsLoad status body = (loaded : Bool) × Reports 200 (loaded_text loaded) status body
 
 -- metrics, where the method is the one that gets them
 abbrev pub AnswersMetrics : Bool → StatusAnswer → Type 0
 AnswersMetrics true answer = IsPage answer
-AnswersMetrics false answer = IsShort (Tells 405 (codes "{\"error\":\"Method\"}")) answer
+AnswersMetrics false answer = IsShort (Reports 405 (codes "{\"error\":\"Method\"}")) answer
 
 -- the load status, of a server that follows nodes
 abbrev pub AnswersLoad : Bool → RequestValue → StatusAnswer → Type 0
-AnswersLoad true request answer = IsShort (Gets request TellsLoad) answer
+AnswersLoad true request answer = IsShort (Gets request ReportsLoad) answer
 AnswersLoad false request answer = IsShort LeadsNowhere answer
 
 -- what is answered at a route
 abbrev pub AnswersStatus : Bool → Route → RequestValue → StatusAnswer → Type 0
-AnswersStatus follows Health request answer = IsShort (Gets request (Tells 200 (codes "true"))) answer
+AnswersStatus follows Health request answer = IsShort (Gets request (Reports 200 (codes "true"))) answer
 AnswersStatus follows Metrics request answer = AnswersMetrics (bytes_eq request.method (codes "GET")) answer
 AnswersStatus follows LoadStatus request answer = AnswersLoad follows request answer
 AnswersStatus follows Query request answer = IsShort LeadsNowhere answer

@@ -65,7 +65,7 @@ impl From<NodeFault> for ClusterFault {
             | NodeFault::History(_)
             | NodeFault::NoFile
             | NodeFault::NotPartitionZero
-            | NodeFault::Behind(_) => ClusterFault::BadFolder,
+            | NodeFault::Stale(_) => ClusterFault::BadFolder,
             NodeFault::Device | NodeFault::Wire(_) | NodeFault::Memory => ClusterFault::Device,
         }
     }

@@ -3,7 +3,7 @@ use std::sync::{Condvar, Mutex, Wait};
 
 // What lies under the lock.
 #[derive(Drop)]
-struct Count {
+struct GateCount {
     // Whether connections count.
     open: bool,
     // How many were answered.
@@ -14,7 +14,7 @@ struct Count {
 /// no contract speaks of the count.
 #[derive(Drop)]
 pub struct Gate {
-    count: Mutex<Count>,
+    count: Mutex<GateCount>,
     changed: Condvar,
 }
 
@@ -22,7 +22,7 @@ impl Gate {
     /// A gate that is closed.
     pub fn new() -> Gate {
         Gate {
-            count: Mutex::new(Count {
+            count: Mutex::new(GateCount {
                 open: false,
                 answered: 0,
             }),

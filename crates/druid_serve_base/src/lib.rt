@@ -2,26 +2,26 @@
 //! and the queries of a config.
 #![tactic(auto)]
 
-mod asking;
+mod client;
 mod fault;
 mod front;
 mod gate;
 mod handover;
 mod host;
-mod outside;
 mod serve_fault;
+mod sockets;
 mod status;
 mod stop;
 mod telemetry;
 
-pub use asking::ask;
+pub use client::ask;
 pub use fault::{Cause, ClusterFault, DeviceFailed, StartFault};
 pub use front::Source;
 pub use gate::Gate;
 pub use handover::Handover;
 pub use host::Host;
-pub use outside::{PEER_SECONDS, answer_each, limit, listen};
 pub use serve_fault::ServeFault;
+pub use sockets::{PEER_SECONDS, answer_each, limit, listen};
 pub use status::{
     STATUS_SECONDS, Status, StatusAnswer, answer_status, serve_status_one, start_status,
 };

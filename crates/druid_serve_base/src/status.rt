@@ -3,13 +3,13 @@ ghost use Rattle.std.specs.Prelude.{◌≡◌, ◌⊎◌, IfOk, bytes_eq, codes}
 ghost use Rattle.std.specs.Io.KnownBytes.{Appends};
 ghost use Rattle.druid_http_message.specs.Requests.{path_of};
 ghost use Rattle.druid_telemetry_metrics.specs.Routes.{route_at};
-ghost use Rattle.druid_http_wire.specs.Served.{Gets, Tells};
+ghost use Rattle.druid_http_wire.specs.Served.{Gets, Reports};
 ghost use Rattle.druid_telemetry_metrics.specs.Response.{response_text};
-ghost use Rattle.druid_serve_base.specs.StatusAnswers.{AnswersLoad, AnswersMetrics, AnswersStatus, IsAnsweredThere, IsPage, IsRefusedThere, IsWritten, TellsLoad, loaded_text};
+ghost use Rattle.druid_serve_base.specs.StatusAnswers.{AnswersLoad, AnswersMetrics, AnswersStatus, IsAnsweredThere, IsPage, IsRefusedThere, IsWritten, ReportsLoad, loaded_text};
 ghost use Rattle.druid_serve_base.specs.declared.status.StatusAnswer.TheVariants.{Short};
 
 use crate::fault::DeviceFailed;
-use crate::outside::{answer_each, limit_to};
+use crate::sockets::{answer_each, limit_to};
 use druid_http_message::{Request, WireFault};
 use druid_http_wire::{Response, read_request, refuse_request, send_response};
 use druid_serve_front::close_answered;
@@ -57,7 +57,7 @@ pub enum StatusAnswer {
 
 // Whether each node was synced.
 fn load_status(loaded: bool) -> Response
-    ensures { Tells 200 (loaded_text loaded) result.status result.body }
+    ensures { Reports 200 (loaded_text loaded) result.status result.body }
 {
     if loaded {
         Response::of_static(StatusCode::OK, "{\"inventoryInitialized\":true}")
@@ -68,7 +68,7 @@ fn load_status(loaded: bool) -> Response
 
 // The answer to a request for whether each node was synced.
 fn answer_load(request: &Request, loaded: bool) -> Response
-    ensures { Gets request.now TellsLoad result.status result.body }
+    ensures { Gets request.now ReportsLoad result.status result.body }
 {
     if !request.has_method("GET") {
         return Response::other_method();

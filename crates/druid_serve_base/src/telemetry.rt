@@ -107,8 +107,8 @@ impl Telemetry {
     }
 
     /// Tells of an event.
-    pub fn tell<R: Wait + Clock>(&self, rt: &R, alloc: Global, event: &Event<'_>) {
-        self.log.tell(rt, alloc, self.name.as_str(), event);
+    pub fn emit<R: Wait + Clock>(&self, rt: &R, alloc: Global, event: &Event<'_>) {
+        self.log.emit(rt, alloc, self.name.as_str(), event);
     }
 
     /// Counts a connection, waits for its first bytes, and notes when they came and what they ask
@@ -154,6 +154,6 @@ impl Telemetry {
             milliseconds: micros / 1_000,
             bytes,
         };
-        self.tell(rt, alloc, &event);
+        self.emit(rt, alloc, &event);
     }
 }

@@ -4,7 +4,7 @@ use Rattle.std.proofs.KnownBytes.{Consumes-trans}
 use Rattle.std.specs.Io.KnownBytes.{Consumes}
 use Rattle.druid_http_wire.specs.Limits.{max_head, max_body}
 use Rattle.druid_http_wire.specs.Missing.{IsAnswerable, LacksMore}
-use Rattle.druid_serve_front.specs.Reading.{Awaits}
+use Rattle.druid_serve_front.specs.Requests.{Awaits}
 
 -- nothing is missing
 pub awaits_nothing : (bytes : List ℕ) → IsAnswerable bytes → length bytes ≤ max_head + max_body → Awaits bytes 0

@@ -2,5 +2,5 @@
 pub mod Seats
 pub mod Answers
 -- words of private contracts
-pub mod Closing
-pub mod Reading
+pub mod ConnectionEnds
+pub mod Requests

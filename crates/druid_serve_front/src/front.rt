@@ -4,9 +4,9 @@ ghost use Rattle.std.specs.Io.KnownBytes.{Appends};
 ghost use Rattle.druid_http_wire.specs.Missing.{IsAnswerable};
 ghost use Rattle.druid_serve_front.specs.Answers.{IsAnswer};
 
-use crate::closing::close_answered;
-use crate::jobs::{Answer, Job, Jobs};
-use crate::reading::{ANSWER_SECONDS, read_whole};
+use crate::connection_end::close_answered;
+use crate::jobs::{Job, JobAnswer, Jobs};
+use crate::request::{ANSWER_SECONDS, read_whole};
 use crate::seats::{Seat, Seats};
 use crossbeam_channel::{Receiver, RecvTimeoutError, Sender, TryRecvError, bounded};
 use druid_link::{Timer, send_all};
@@ -278,7 +278,7 @@ impl Front {
 
     // Hands a request to a worker, and waits for its answer. None where the worker lets the job go, the workers are gone, or memory
     // runs out.
-    fn ask<R: Wait + Clock>(&self, rt: &R, alloc: Global, request: Vec<u8>) -> Option<Answer>
+    fn ask<R: Wait + Clock>(&self, rt: &R, alloc: Global, request: Vec<u8>) -> Option<JobAnswer>
         requires { IsAnswerable request.items }
     {
         let Ok((reply, answers)) = bounded(alloc, 1) else {
@@ -307,7 +307,11 @@ impl Front {
 }
 
 // Writes an answer within its time, and gives its status where it was written whole.
-fn send<C: Clock, S: Write + OpenStream>(clock: &C, answer: &Answer, stream: &mut S) -> Option<u16>
+fn send<C: Clock, S: Write + OpenStream>(
+    clock: &C,
+    answer: &JobAnswer,
+    stream: &mut S,
+) -> Option<u16>
     ensures { IfSome result (λ sent. (bytes : List ℕ) × IsAnswer sent bytes × Appends (S.contents stream.old) (S.contents stream.new) bytes) }
 {
     let Ok(start) = Instant::now(clock) else {

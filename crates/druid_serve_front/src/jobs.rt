@@ -14,7 +14,7 @@ use std::sync::Wait;
 #[derive(Drop)]
 pub struct Job {
     request: Vec<u8>,
-    reply: Sender<Answer>,
+    reply: Sender<JobAnswer>,
 }
 
 impl Model for Job {
@@ -30,7 +30,7 @@ impl Model for Job {
 
 impl Job {
     // The job of this request, whose answer goes there.
-    pub(crate) fn new(request: Vec<u8>, reply: Sender<Answer>) -> Job
+    pub(crate) fn new(request: Vec<u8>, reply: Sender<JobAnswer>) -> Job
         requires { IsAnswerable request.items }
         ensures { result ≡ request.items }
     {
@@ -50,18 +50,18 @@ impl Job {
     pub fn answer<R: Wait>(self, rt: &R, status: u16, bytes: Vec<u8>)
         requires { IsAnswer status bytes.items }
     {
-        let _ = self.reply.send(rt, Answer::new(status, bytes));
+        let _ = self.reply.send(rt, JobAnswer::new(status, bytes));
     }
 }
 
 // What a worker answers: the text of one response, and the status that it is sent with.
 #[derive(Drop)]
-pub(crate) struct Answer {
+pub(crate) struct JobAnswer {
     status: u16,
     bytes: Vec<u8>,
 }
 
-impl Model for Answer {
+impl Model for JobAnswer {
     ghost use Rattle.druid_serve_front.specs.Answers.{AnswerValue, IsAnswer};
 
     ghost Value = { AnswerValue };
@@ -71,12 +71,12 @@ impl Model for Answer {
     ghost invariant = { λ a. IsAnswer a.status a.bytes.items };
 }
 
-impl Answer {
-    fn new(status: u16, bytes: Vec<u8>) -> Answer
+impl JobAnswer {
+    fn new(status: u16, bytes: Vec<u8>) -> JobAnswer
         requires { IsAnswer status bytes.items }
         ensures { result ≡ record { sent = status; bytes = bytes.items } }
     {
-        Answer { status, bytes }
+        JobAnswer { status, bytes }
     }
 
     pub(crate) fn status(&self) -> u16

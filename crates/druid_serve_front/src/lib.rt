@@ -4,14 +4,14 @@
 //! sockets (`epoll`) is trusted.
 #![tactic(auto)]
 
-mod closing;
+mod connection_end;
 mod front;
 mod jobs;
-mod reading;
+mod request;
 mod seats;
 
-pub use closing::{CLOSING_SECONDS, MAX_CLOSING, close_answered};
+pub use connection_end::{CLOSING_SECONDS, MAX_CLOSING, close_answered};
 pub use front::{Connection, Front, Place, open};
 pub use jobs::{Job, Jobs, answer_jobs};
-pub use reading::{ANSWER_SECONDS, HEAD_SECONDS, REQUEST_SECONDS};
+pub use request::{ANSWER_SECONDS, HEAD_SECONDS, REQUEST_SECONDS};
 pub use seats::{GRACE, Seat, Seats};

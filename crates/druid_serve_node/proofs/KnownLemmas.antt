@@ -25,7 +25,7 @@ use Rattle.druid_folder.specs.Folder.{AreInOrder, names_of}
 use Rattle.druid_serve_node.specs.Looks.{File, Notes, state_of, known_names}
 use Rattle.druid_serve_node.specs.Layout.{file_of, files_of}
 use Rattle.druid_serve_node.specs.Totals.{total}
-use Rattle.druid_serve_node.specs.declared.known.FileState.{FileState}
+use Rattle.druid_serve_node.specs.declared.known_files.FileState.{FileState}
 
 -- what the map has at a name is what is known of that file
 pub state_found : (entries : List (String Global × FileState)) (name : List ℕ) → lookup (is_at (λ k. slice_cmp nat_cmp name (string_bytes k))) entries ≡ state_of (files_of entries) name

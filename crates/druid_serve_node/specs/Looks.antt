@@ -6,8 +6,8 @@ use Rattle.druid_segment_descriptor.specs.Mark.{Point, mark_cmp}
 use Rattle.druid_node.specs.Files as files
 use Rattle.druid_node.specs.Files.{file_name}
 use Rattle.druid_serve_node.specs.Files.{is_segment_file}
-use Rattle.druid_serve_node.specs.declared.known.FileState.{FileState}
-use Rattle.druid_serve_node.specs.declared.known.FileState.TheVariants.{Loaded, Refused}
+use Rattle.druid_serve_node.specs.declared.known_files.FileState.{FileState}
+use Rattle.druid_serve_node.specs.declared.known_files.FileState.TheVariants.{Loaded, Refused}
 
 -- ---- what is known
 

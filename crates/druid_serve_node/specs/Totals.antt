@@ -3,8 +3,8 @@ use Rattle.std.specs.Prelude.{ℕ, ◌-◌, ◌^◌, min, List, sum_by}
 use Rattle.druid_segment_descriptor.specs.Mark.{Point}
 use Rattle.druid_telemetry_metrics.specs.declared.families.NodeState.{NodeState}
 use Rattle.druid_serve_node.specs.Looks.{File}
-use Rattle.druid_serve_node.specs.declared.known.FileState.{FileState}
-use Rattle.druid_serve_node.specs.declared.known.FileState.TheVariants.{Loaded, Refused}
+use Rattle.druid_serve_node.specs.declared.known_files.FileState.{FileState}
+use Rattle.druid_serve_node.specs.declared.known_files.FileState.TheVariants.{Loaded, Refused}
 
 -- the segments of a file, its rows, and its bytes: none where it is not loaded
 abbrev pub segments_in : FileState → ℕ

@@ -8,8 +8,8 @@
 //! seen, nor below that which the node had after the loads of its start (`serve_since`).
 #![tactic(auto)]
 
-mod known;
-mod latest;
+mod known_files;
+mod latest_mark;
 mod loader;
 mod node;
 mod owner;
@@ -19,7 +19,7 @@ mod status;
 mod watch;
 mod worker;
 
-pub use known::{FileState, Known};
+pub use known_files::{FileState, KnownFiles};
 pub use loader::{EndOfLoads, Loading};
 pub use node::{start_node, start_owner};
 pub use reporter::Reporter;

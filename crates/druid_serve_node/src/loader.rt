@@ -6,7 +6,7 @@ ghost use Rattle.std.specs.Prelude.{◌≡◌, ◌≢◌};
 ghost use Rattle.std.specs.declared.cmp.Ordering.TheVariants.{Greater};
 ghost use Rattle.druid_segment_descriptor.specs.Mark.{mark_cmp};
 
-use crate::latest::{Begun, Latest};
+use crate::latest_mark::{Begun, Latest};
 use crate::owner::Owner;
 use crate::reporter::Reporter;
 use crate::watch::Watch;

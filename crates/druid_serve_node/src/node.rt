@@ -8,8 +8,8 @@ ghost use Rattle.druid_folder_incarnation.specs.Incarnation.{number_file, number
 ghost use Rattle.druid_serve_node.specs.Faults.{IsOfRaise, IsOfLoad, IsOfPlacing};
 ghost use Rattle.druid_serve_node.specs.Files.{HoldsSegments, IsStarted};
 
-use crate::known::Known;
-use crate::latest::{Begun, Latest};
+use crate::known_files::KnownFiles;
+use crate::latest_mark::{Begun, Latest};
 use crate::loader::{Loader, Loading, Tried, start_loader};
 use crate::owner::{Owner, own_folder};
 use crate::reporter::Reporter;
@@ -57,7 +57,7 @@ fn load_files<R: Wait + Threads + Sync + Clock, F: Folder, I: Incarnation>(
     node: &DataNode<I>,
     folder: &mut F,
     threads: usize,
-    known: &mut Known,
+    known: &mut KnownFiles,
     reporter: &mut Reporter,
     seen: &mut Mark,
 ) -> Result<(), StartFault>
@@ -162,7 +162,7 @@ fn load_node<R: Wait + Threads + Sync + Clock, F: Folder, I: Incarnation>(
     let seen = state.mark();
     let mut loaded = LoadedNode {
         node: DataNode::new(state, threads),
-        known: Known::new(alloc),
+        known: KnownFiles::new(alloc),
         seen,
         reporter,
     };
@@ -183,7 +183,7 @@ fn load_node<R: Wait + Threads + Sync + Clock, F: Folder, I: Incarnation>(
 #[derive(Drop)]
 struct LoadedNode<I: Incarnation> {
     node: DataNode<I>,
-    known: Known,
+    known: KnownFiles,
     seen: Mark,
     reporter: Reporter,
 }

@@ -36,14 +36,14 @@ impl Reporter {
         })
     }
 
-    fn tell<R: Wait + Clock>(&self, rt: &R, event: &Event<'_>) {
-        self.telemetry.tell(rt, self.alloc, event);
+    fn emit<R: Wait + Clock>(&self, rt: &R, event: &Event<'_>) {
+        self.telemetry.emit(rt, self.alloc, event);
     }
 
     // The segment of a file was loaded.
     pub(crate) fn load<R: Wait + Clock>(&mut self, rt: &R, name: &str) {
         self.refusals.forget(name);
-        self.tell(rt, &Event::Loaded { file: name });
+        self.emit(rt, &Event::Loaded { file: name });
     }
 
     // A file was refused: it is logged once for each fault, and not where memory runs out for it.
@@ -56,7 +56,7 @@ impl Reporter {
         };
         let code = code_in(text.as_str());
         if let Ok(true) = self.refusals.refuse(name, code) {
-            self.tell(rt, &Event::Refused { file: name, code });
+            self.emit(rt, &Event::Refused { file: name, code });
         }
     }
 
@@ -64,7 +64,7 @@ impl Reporter {
     pub(crate) fn let_go<R: Wait + Clock>(&mut self, rt: &R, name: &str, was_loaded: bool) {
         self.refusals.forget(name);
         if was_loaded {
-            self.tell(rt, &Event::Dropped { file: name });
+            self.emit(rt, &Event::Dropped { file: name });
         }
     }
 

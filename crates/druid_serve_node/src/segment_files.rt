@@ -9,7 +9,7 @@ ghost use Rattle.druid_serve_node.specs.Faults.{IsOfLoad};
 ghost use Rattle.druid_serve_node.specs.Files.{is_segment_file, IsTaken};
 ghost use Rattle.druid_serve_node.specs.SegmentFiles.{IsRead, IsDecodedOf, IsFound};
 
-use crate::known::{Known, is_segment_file};
+use crate::known_files::{KnownFiles, is_segment_file};
 use crate::reporter::Reporter;
 use druid_folder::{Folder, StoreFault};
 use druid_node::{DataNode, Incarnation, NodeFault, decode_file};
@@ -85,7 +85,7 @@ fn load_one<R: Wait + Clock, I: Incarnation>(
     alloc: Global,
     node: &DataNode<I>,
     file: DecodedFile<'_>,
-    known: &mut Known,
+    known: &mut KnownFiles,
     reporter: &mut Reporter,
     seen: &mut Mark,
 ) -> Result<(), StartFault>
@@ -118,7 +118,7 @@ fn load_decoded<R: Wait + Clock, I: Incarnation>(
     alloc: Global,
     node: &DataNode<I>,
     files: Vec<DecodedFile<'_>>,
-    known: &mut Known,
+    known: &mut KnownFiles,
     reporter: &mut Reporter,
     seen: &mut Mark,
 ) -> Result<(), StartFault>
@@ -204,7 +204,7 @@ fn load_front<R: Wait + Threads + Sync + Clock, F: Folder, I: Incarnation>(
     node: &DataNode<I>,
     folder: &mut F,
     names: &[String],
-    known: &mut Known,
+    known: &mut KnownFiles,
     reporter: &mut Reporter,
     seen: &mut Mark,
 ) -> Result<(), StartFault>
@@ -230,7 +230,7 @@ pub(crate) fn load_named<R: Wait + Threads + Sync + Clock, F: Folder, I: Incarna
     folder: &mut F,
     names: &[String],
     threads: usize,
-    known: &mut Known,
+    known: &mut KnownFiles,
     reporter: &mut Reporter,
     seen: &mut Mark,
 ) -> Result<(), StartFault>

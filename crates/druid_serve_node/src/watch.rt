@@ -9,7 +9,7 @@ ghost use Rattle.druid_folder.specs.Folder.{AreNames, names_of, faults_at, IsOwn
 ghost use Rattle.druid_serve_node.specs.Totals.{state_at};
 ghost use Rattle.druid_serve_node.specs.Looks.{due_names, IsTried, IsGone, IsLook};
 
-use crate::known::Known;
+use crate::known_files::KnownFiles;
 use crate::reporter::Reporter;
 use druid_folder::{Folder, StoreFault};
 use druid_node::{DataNode, Incarnation};
@@ -24,7 +24,7 @@ use std::time::Clock;
 /// or drop.
 #[derive(Drop)]
 pub struct Watch {
-    known: Known,
+    known: KnownFiles,
     seen: Mark,
 }
 
@@ -38,7 +38,7 @@ impl Model for Watch {
 
 impl Watch {
     /// A watch from that mark on, at which the node has these files.
-    pub fn new(known: Known, seen: Mark) -> Watch
+    pub fn new(known: KnownFiles, seen: Mark) -> Watch
         ensures { result ≡ record { known = known; seen = seen } }
     {
         Watch { known, seen }

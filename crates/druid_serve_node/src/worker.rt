@@ -5,7 +5,7 @@ ghost use Rattle.druid_segment_descriptor.specs.Mark.{Point, mark_cmp};
 ghost use Rattle.druid_node.specs.Seen.{IsServedAsSeen};
 ghost use Rattle.druid_serve_front.specs.Answers.{IsAnswer};
 
-use crate::latest::{Begun, Latest};
+use crate::latest_mark::{Begun, Latest};
 use druid_node::{DataNode, Incarnation, NodeFault};
 use druid_segment_descriptor::Mark;
 use druid_serve_base::{DeviceFailed, Host, Source, Telemetry, answer_each, limit};

@@ -5,7 +5,9 @@
 #[cfg(test)]
 mod config;
 #[cfg(test)]
-mod explaining;
+mod fault_lines;
+#[cfg(test)]
+mod file_loads;
 #[cfg(test)]
 mod folders;
 #[cfg(test)]
@@ -13,15 +15,13 @@ mod fronts;
 #[cfg(test)]
 mod host;
 #[cfg(test)]
-mod listening;
+mod listen_addresses;
 #[cfg(test)]
-mod live;
-#[cfg(test)]
-mod loading;
+mod live_clusters;
 #[cfg(test)]
 mod many_nodes;
 #[cfg(test)]
-mod operating;
+mod operator;
 #[cfg(test)]
 mod oversize;
 #[cfg(test)]

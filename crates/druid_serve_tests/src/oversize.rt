@@ -1,6 +1,6 @@
 //! What met a limit of 16 MiB is in the log, once for each exchange with a node.
 use crate::host::Host;
-use crate::live::pair;
+use crate::live_clusters::pair;
 use crate::relay::{relayed_config, start_relay};
 use crate::serve::{clear, place_of};
 use druid_program::{Environment, serve_config};
@@ -73,7 +73,7 @@ fn log_of<R: Host + Net<Listener = TcpListener, Stream = TcpStream>>(
 }
 
 #[test]
-fn limits_that_nodes_tell_of(rt: HostRuntime) {
+fn limits_that_nodes_report(rt: HostRuntime) {
     let alloc = rt.alloc();
     for (refusal, code) in LIMITS {
         let text = log_of(&rt, alloc, refusal);

@@ -1,6 +1,6 @@
 //! What stands between brokers and a node: it passes on what they ask, keeps silent, or refuses queries in the node's place.
 use crate::host::{Host, address_of, listener};
-use crate::live::link_to;
+use crate::live_clusters::link_to;
 use crate::serve::{Place, config};
 use druid_http_wire::{Missing, missing_of};
 use druid_link::Link;

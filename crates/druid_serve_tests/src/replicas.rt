@@ -1,7 +1,7 @@
 //! A replica that keeps silent: one query waits for it, the next ones go to the other first, and once it answers again it has its share.
 use crate::folders::{NEWER_FILE, OLDER_FILE, file_bytes, put};
 use crate::host::Host;
-use crate::live::{ASK, NEWER, answered, link_to};
+use crate::live_clusters::{ASK, NEWER, answered, link_to};
 use crate::relay::{Relay, relayed_config, start_relay};
 use crate::serve::{Place, assert_served, clear, place_of, served};
 use druid_link_health::monotonic_millis;

@@ -444,7 +444,7 @@ fn links_to<R: Host + Net<Listener = TcpListener, Stream = TcpStream>>(
 
 // What the thread that serves a cluster and the one that asks its brokers tell each other.
 #[derive(Drop)]
-struct Told {
+struct Signals {
     // A query of the config is answered: the brokers answer, and count nothing yet.
     early: Handover<()>,
     // They were asked so early.
@@ -459,21 +459,21 @@ struct Told {
 #[derive(Drop)]
 struct Held<'a, R: Wait> {
     rt: &'a R,
-    told: &'a Told,
+    signals: &'a Signals,
     printed: Vec<u8>,
 }
 
 impl<R: Wait> Write for Held<'_, R> {
     fn write(&mut self, buf: &[u8]) -> io::Result<usize> {
         if self.printed.is_empty() {
-            self.told.early.give(self.rt, ());
-            self.told.asked.take(self.rt);
+            self.signals.early.give(self.rt, ());
+            self.signals.asked.take(self.rt);
         }
         self.printed.write(buf)
     }
 
     fn flush(&mut self) -> io::Result<()> {
-        self.told.counts.give(self.rt, ());
+        self.signals.counts.give(self.rt, ());
         Ok(())
     }
 }
@@ -483,18 +483,18 @@ fn begun_by_the_end<R: Host + Net<Listener = TcpListener, Stream = TcpStream>>(
     rt: &R,
     alloc: Global,
     config: &str,
-    told: &Told,
+    signals: &Signals,
 ) -> u64 {
     let mut out = Held {
         rt,
-        told,
+        signals,
         printed: Vec::new(alloc),
     };
     let mut errors = Vec::new(alloc);
     let environment = environment(rt, alloc, false);
     let bytes = config.as_bytes();
     let ending = serve_config(rt, alloc, bytes, &environment, &mut out, &mut errors);
-    let begun = told.begun.load(Ordering::SeqCst);
+    let begun = signals.begun.load(Ordering::SeqCst);
     assert!(rt; ending.status == 0 && out.printed.as_slice().starts_with(b"200\n"));
     begun
 }
@@ -508,23 +508,23 @@ fn ask_brokers<R: Host + Net<Listener = TcpListener, Stream = TcpStream>>(
     rt: &R,
     alloc: Global,
     place: &Place,
-    told: &Told,
+    signals: &Signals,
     early: u64,
     connections: u64,
 ) -> u64 {
     let mut brokers = links_to(rt, alloc, [&place.broker, &place.other]);
     let mut nodes = links_to(rt, alloc, [&place.first, &place.second]);
-    told.early.take(rt);
+    signals.early.take(rt);
     ask_each(alloc, &mut brokers, early);
-    told.asked.give(rt, ());
-    told.counts.take(rt);
+    signals.asked.give(rt, ());
+    signals.counts.take(rt);
     let mut answered = 0u64;
     for number in 1..=connections {
         for broker in brokers.iter_mut() {
             if number == connections {
                 ask_each(alloc, &mut nodes, EXCHANGES);
             }
-            told.begun.fetch_add(1, Ordering::SeqCst);
+            signals.begun.fetch_add(1, Ordering::SeqCst);
             if is_there(alloc, broker) {
                 answered = answered.saturating_add(1);
             }
@@ -544,7 +544,7 @@ fn assert_counted<R: Host + Net<Listener = TcpListener, Stream = TcpStream>>(
 ) {
     let place = place_of(rt, alloc, test);
     let config = config(rt, alloc, &place, connections);
-    let told = Told {
+    let signals = Signals {
         early: Handover::new(),
         asked: Handover::new(),
         counts: Handover::new(),
@@ -552,8 +552,8 @@ fn assert_counted<R: Host + Net<Listener = TcpListener, Stream = TcpStream>>(
     };
     let (begun, answered) = join(
         rt,
-        || begun_by_the_end(rt, alloc, config.as_str(), &told),
-        || ask_brokers(rt, alloc, &place, &told, early, connections),
+        || begun_by_the_end(rt, alloc, config.as_str(), &signals),
+        || ask_brokers(rt, alloc, &place, &signals, early, connections),
     );
     let wanted = connections.saturating_mul(2);
     assert!(rt;

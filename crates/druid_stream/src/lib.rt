@@ -5,8 +5,8 @@
 
 mod interrupted;
 mod lines;
-mod writing;
+mod writer;
 
 pub use interrupted::{MAX_TRIES, is_interrupted};
 pub use lines::{Next, Part, next_line, next_part};
-pub use writing::write_text;
+pub use writer::write_text;

@@ -7,7 +7,7 @@ use Rattle.std.proofs.lemmas.List.{get_or-append-add, get_or_append_left}
 use Rattle.druid_segment_descriptor.specs.Described.{Described}
 use Rattle.druid_segment_descriptor.specs.Reply.{AreSorted, IsBefore}
 use Rattle.druid_sync_pages.specs.Assembly.{ArePages, whole_of}
-use Rattle.druid_sync_pages.specs.Fitting.{EndsBefore}
+use Rattle.druid_sync_pages.specs.PageSizes.{EndsBefore}
 use Rattle.druid_sync_pages.proofs.WholeLemmas.{with_front}
 
 abbrev Pages : Type 0

@@ -12,7 +12,7 @@ use Rattle.druid_segment_descriptor.specs.Mark.{Point, mark_cmp}
 use Rattle.druid_segment_descriptor.specs.Reply.{AreSorted}
 use Rattle.druid_segment_descriptor.specs.Orders.{mark_cmp-total, mark_cmp-ties}
 use Rattle.druid_sync_pages.specs.Assembly.{Parts, Page, IsPage, IsLacking, Puts, Takes, Refuses, Conflicts, IsOutdated, no_pages, with_page, parts_for}
-use Rattle.druid_sync_pages.specs.Fitting.{FitsAs, Compares, PutsIn, RefusesIn}
+use Rattle.druid_sync_pages.specs.PageSizes.{FitsAs, Compares, PutsIn, RefusesIn}
 use Rattle.druid_sync_pages.specs.declared.fault.PageFault.{PageFault}
 use Rattle.druid_sync_pages.specs.declared.fault.PageFault.TheVariants.{Conflict, Memory}
 use Rattle.druid_sync_pages.specs.declared.parts.Fit.TheVariants.{Lacking, Last}

@@ -8,7 +8,7 @@ use Rattle.druid_base.proofs.ListLemmas.{slice_get-set}
 use Rattle.druid_segment_descriptor.specs.Described.{Described}
 use Rattle.druid_segment_descriptor.specs.Reply.{max_page}
 use Rattle.druid_sync_pages.specs.Assembly.{ArePages, whole_of}
-use Rattle.druid_sync_pages.specs.Fitting.{AllThere, OthersThere}
+use Rattle.druid_sync_pages.specs.PageSizes.{AllThere, OthersThere}
 use Rattle.std.proofs.lemmas.List.{length-set}
 use Rattle.druid_sync_pages.proofs.PartLemmas.{get_set, get_set_apart}
 

@@ -2,4 +2,4 @@
 pub mod Pages
 pub mod Assembly
 -- words of private contracts
-pub mod Fitting
+pub mod PageSizes

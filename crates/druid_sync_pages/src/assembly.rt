@@ -4,7 +4,7 @@ ghost use Rattle.std.specs.declared.cmp.Ordering.TheVariants.{Less, Equal, Great
 ghost use Rattle.druid_segment_descriptor.specs.Mark.{mark_cmp};
 ghost use Rattle.druid_segment_descriptor.specs.Reply.{max_segments};
 ghost use Rattle.druid_sync_pages.specs.Assembly.{IsPage, Takes, Refuses, no_pages, with_page};
-ghost use Rattle.druid_sync_pages.specs.Fitting.{Compares, PutsIn, RefusesIn};
+ghost use Rattle.druid_sync_pages.specs.PageSizes.{Compares, PutsIn, RefusesIn};
 
 use crate::PageFault;
 use crate::parts::{Fit, Parts};

@@ -3,7 +3,7 @@ ghost use Rattle.std.specs.Prelude.{◌≡◌, ◌↔◌, ◌≤◌, ◌<◌, Li
 ghost use Rattle.druid_segment_descriptor.specs.Described.{Described};
 ghost use Rattle.druid_segment_descriptor.specs.Reply.{max_page, max_pages, max_segments, AreSorted};
 ghost use Rattle.druid_sync_pages.specs.Assembly.{IsPage, no_pages, with_page, whole_of};
-ghost use Rattle.druid_sync_pages.specs.Fitting.{AllThere, OthersThere, EndsBefore, FitsAs};
+ghost use Rattle.druid_sync_pages.specs.PageSizes.{AllThere, OthersThere, EndsBefore, FitsAs};
 
 use crate::PageFault;
 use crate::pages::{append_copies, copies_of};

@@ -3,9 +3,9 @@ use Rattle.serde_json.specs.View.{view, items_view}
 use Rattle.druid_segment_descriptor.specs.declared.change.Change.{Change}
 use Rattle.druid_segment_descriptor.specs.declared.change.Change.TheVariants.{Load, Drop}
 use Rattle.druid_sync_text.specs.Read.{Five}
-use Rattle.druid_sync_text.specs.declared.reading.Borrowed.{Borrowed}
-use Rattle.druid_sync_text.specs.declared.reading.ChangeRef.{ChangeRef}
-use Rattle.druid_sync_text.specs.declared.reading.ChangeRef.TheVariants as borrowed
+use Rattle.druid_sync_text.specs.declared.reply_reader.Borrowed.{Borrowed}
+use Rattle.druid_sync_text.specs.declared.reply_reader.ChangeRef.{ChangeRef}
+use Rattle.druid_sync_text.specs.declared.reply_reader.ChangeRef.TheVariants as borrowed
 
 -- its five fields
 abbrev pub five_borrowed : Borrowed → Five

@@ -141,8 +141,8 @@ paged_at d five = do
   if five.reset then None else page_at five.at page of five.requests
 
 -- whether one of the two numbers of a page is there
-abbrev pub tells_page : Data → Bool
-tells_page d = is_some (get (codes "page") d) || is_some (get (codes "pages") d)
+abbrev pub is_page_reply : Data → Bool
+is_page_reply d = is_some (get (codes "page") d) || is_some (get (codes "pages") d)
 
 -- the form of a value that tells no page
 abbrev pub unpaged_at : Five → Option Form
@@ -152,7 +152,7 @@ unpaged_at five = if five.reset then reset_at five else changes_at five
 unfoldable pub form_at : Data → Option Form
 form_at d = do
   five ← five_at d
-  if tells_page d then paged_at d five else unpaged_at five
+  if is_page_reply d then paged_at d five else unpaged_at five
 
 -- the answer to a delta: too long, then of another length than its marks say; memory is wanted where it is neither
 abbrev pub IsDeltaRead : Point → Point → List Change → Result Body SyncFault → Type 0

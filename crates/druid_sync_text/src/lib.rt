@@ -4,11 +4,11 @@
 mod ask;
 mod fault;
 mod laws;
-mod reading;
-mod writing;
+mod reply_reader;
+mod reply_writer;
 
 pub use ask::{ask_target, ask_target_at, read_ask};
 pub use fault::{AskFault, SyncFault};
 pub use laws::{asks_are_read_back, replies_are_read_back};
-pub use reading::{read_reply, reply_of};
-pub use writing::reply_text;
+pub use reply_reader::{read_reply, reply_of};
+pub use reply_writer::reply_text;

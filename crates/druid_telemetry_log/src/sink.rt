@@ -97,7 +97,7 @@ impl Log {
 
     /// Tells of an event of a server. It does not wait for the writer: where the queue is full, or memory runs out, the line is
     /// lost, and counted for the next `Missed`.
-    pub fn tell<R: Wait + Clock>(&self, rt: &R, alloc: Global, server: &str, event: &Event<'_>) {
+    pub fn emit<R: Wait + Clock>(&self, rt: &R, alloc: Global, server: &str, event: &Event<'_>) {
         let Some(queue) = &self.queue else {
             return;
         };

@@ -3,7 +3,7 @@ ghost use Rattle.std.specs.Prelude.{◌≡◌, ◌<◌, ◌≤◌, ◌↔◌, Is
 ghost use Rattle.druid_time.specs.Instant.{IsInstant};
 ghost use Rattle.druid_time.specs.Texts.{digit};
 
-use crate::reading::number;
+use crate::parser::number;
 use jiff::civil::Date;
 use std::marker::Model;
 

@@ -5,7 +5,7 @@ ghost use Rattle.druid_time.specs.Granularity.{bucket_at};
 ghost use Rattle.druid_time.specs.Texts.{instant_text, instant_at};
 
 use crate::civil::Civil;
-use crate::reading::has_form;
+use crate::parser::has_form;
 use crate::{Granularity, TimeFault};
 use std::marker::Model;
 

@@ -9,7 +9,7 @@ mod instant;
 mod interval;
 mod interval_set;
 mod laws;
-mod reading;
+mod parser;
 
 pub use fault::TimeFault;
 pub use granularity::Granularity;

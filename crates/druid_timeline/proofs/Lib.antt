@@ -6,7 +6,7 @@ pub mod OverlayLemmas
 pub mod CutLemmas
 pub mod SpliceLemmas
 pub mod MoveLemmas
-pub mod HalvingLemmas
+pub mod HalfLemmas
 pub mod TurnLemmas
 pub mod WholeLemmas
 pub mod CountLemmas

@@ -13,7 +13,7 @@ use Rattle.druid_time.proofs.ExtentLemmas.{at_most}
 use Rattle.druid_segment_id.specs.Group.{Group, Outranks}
 use Rattle.druid_segment_id.proofs.GroupLemmas.{Outranks-cases, Outranks-onward, Outranks-one_way}
 use Rattle.druid_timeline.specs.Candidates.{IsCandidateOf, IsBestOf}
-use Rattle.druid_timeline.specs.Skyline.{StartInOrder, EndLater, StandsBehind, IsSkyline, IsCovered, IsTop, IsSkylineOf}
+use Rattle.druid_timeline.specs.Skyline.{StartInOrder, EndLater, StandsAfter, IsSkyline, IsCovered, IsTop, IsSkylineOf}
 use Rattle.druid_timeline.proofs.SweepLemmas.{SeenBetween, drop_next}
 
 -- ---- borrowed items
@@ -96,7 +96,7 @@ drop_later xs i j g le (k, l, at) =
 
 -- ---- skylines
 
-IsSkyline-append : (xs ys : List Group) → IsSkyline xs → IsSkyline ys → ((a b : Group) → Contains xs a → Contains ys b → StandsBehind a b) → IsSkyline (xs ++ ys)
+IsSkyline-append : (xs ys : List Group) → IsSkyline xs → IsSkyline ys → ((a b : Group) → Contains xs a → Contains ys b → StandsAfter a b) → IsSkyline (xs ++ ys)
 IsSkyline-append [] ys hx hy cross = hy
 IsSkyline-append (x ∷ xs) ys hx hy cross = (
   λ b there. elim (Contains-append_cases xs ys b there) [
@@ -114,10 +114,10 @@ IsSkyline-right : (xs ys : List Group) → IsSkyline (xs ++ ys) → IsSkyline ys
 IsSkyline-right [] ys h = h
 IsSkyline-right (x ∷ xs) ys h = IsSkyline-right xs ys h.1
 
-IsSkyline-across : (xs ys : List Group) → IsSkyline (xs ++ ys) → (a b : Group) → Contains xs a → Contains ys b → StandsBehind a b
+IsSkyline-across : (xs ys : List Group) → IsSkyline (xs ++ ys) → (a b : Group) → Contains xs a → Contains ys b → StandsAfter a b
 IsSkyline-across [] ys h a b there later = absurd (Contains-nil a there)
 IsSkyline-across (x ∷ xs) ys h a b there later = elim (Contains-cons x xs a there) [
-  | inl same ↦ subst (λ (y : Group). StandsBehind y b) same (h.0 b (Contains-append_right xs ys b later))
+  | inl same ↦ subst (λ (y : Group). StandsAfter y b) same (h.0 b (Contains-append_right xs ys b later))
   | inr more ↦ IsSkyline-across xs ys h.1 a b more later
 ]
 
@@ -127,11 +127,11 @@ IsSkyline-take sky i h = IsSkyline-left (take i sky) (drop i sky) (subst IsSkyli
 IsSkyline-drop : (sky : List Group) (i : ℕ) → IsSkyline sky → IsSkyline (drop i sky)
 IsSkyline-drop sky i h = IsSkyline-right (take i sky) (drop i sky) (subst IsSkyline (sym (take-append-drop i sky)) h)
 
-across_at : (sky : List Group) (i : ℕ) → IsSkyline sky → (a b : Group) → Contains (take i sky) a → Contains (drop i sky) b → StandsBehind a b
+across_at : (sky : List Group) (i : ℕ) → IsSkyline sky → (a b : Group) → Contains (take i sky) a → Contains (drop i sky) b → StandsAfter a b
 across_at sky i h = IsSkyline-across (take i sky) (drop i sky) (subst IsSkyline (sym (take-append-drop i sky)) h)
 
 -- the last before a place has the greatest rank of those, and none of them ends before it
-last_before : (sky : List Group) (place : ℕ) (b : Group) → IsSkyline sky → 0 < place → place ≤ length sky → b ≡ get_or sky (place - 1) b → Contains (take place sky) b × ((g : Group) → Contains (take place sky) g → (g ≡ b) ⊎ StandsBehind g b)
+last_before : (sky : List Group) (place : ℕ) (b : Group) → IsSkyline sky → 0 < place → place ≤ length sky → b ≡ get_or sky (place - 1) b → Contains (take place sky) b × ((g : Group) → Contains (take place sky) g → (g ≡ b) ⊎ StandsAfter g b)
 last_before sky place b h pos le at = (
   subst (λ (xs : List Group). Contains xs b) (sym e) (Contains-push (take (place - 1) sky) b),
   λ g there. elim (Contains-push_cases (take (place - 1) sky) b g (subst (λ (xs : List Group). Contains xs g) e there)) [
@@ -149,7 +149,7 @@ last_before sky place b h pos le at = (
 pub beats_all : (sky : List Group) (place : ℕ) (b key : Group) → IsSkyline sky → 0 < place → place ≤ length sky → b ≡ get_or sky (place - 1) b → Outranks key b → (g : Group) → Contains (take place sky) g → Outranks key g
 beats_all sky place b key h pos le at above g there = elim ((last_before sky place b h pos le at).1 g there) [
   | inl same ↦ subst (Outranks key) (sym same) above
-  | inr behind ↦ Outranks-onward key b g above behind.0
+  | inr lower ↦ Outranks-onward key b g above lower.0
 ]
 
 -- where it does not, the last is as good
@@ -172,11 +172,11 @@ IsTop-last sky b h pos at =
       there = subst (λ (xs : List Group). Contains xs b) whole last.0;
       rank = λ g there. elim (last.1 g (subst (λ (xs : List Group). Contains xs g) (sym whole) there)) [
         | inl same ↦ inl same
-        | inr behind ↦ inr behind.0
+        | inr lower ↦ inr lower.0
       ];
       end = λ g there. elim (last.1 g (subst (λ (xs : List Group). Contains xs g) (sym whole) there)) [
         | inl same ↦ let e = ap (λ (x : Group). x.interval.end) same in omega (arith, e)
-        | inr behind ↦ behind.1
+        | inr lower ↦ lower.1
       ];
     }
 
@@ -251,9 +251,9 @@ length-replaced sky place to key order le =
 
 pub replaced_order : (sky : List Group) (place to : ℕ) (key : Group) → IsTakenIn sky place to key → IsSkyline (replaced sky place to key)
 replaced_order sky place to key h =
-    IsSkyline-append (take place sky) (key ∷ drop to sky) (IsSkyline-take sky place h.order) (λ b there. behind b there, IsSkyline-drop sky to h.order) (λ a b ha hb. by_place a b ha (Contains-cons key (drop to sky) b hb)) where
-      behind : (b : Group) → Contains (drop to sky) b → StandsBehind key b
-      behind b there =
+    IsSkyline-append (take place sky) (key ∷ drop to sky) (IsSkyline-take sky place h.order) (λ b there. lower b there, IsSkyline-drop sky to h.order) (λ a b ha hb. by_place a b ha (Contains-cons key (drop to sky) b hb)) where
+      lower : (b : Group) → Contains (drop to sky) b → StandsAfter key b
+      lower b there =
           let short = h.shorter b (drop_later sky place to b h.within there) in (
             elim (Outranks-cases key b) [
               | inl above ↦ absurd (h.rest b there above)
@@ -263,8 +263,8 @@ replaced_order sky place to key h =
             omega (arith, short),
           )
 
-      by_place : (a b : Group) → Contains (take place sky) a → (key ≡ b) ⊎ Contains (drop to sky) b → StandsBehind a b
-      by_place a b ha (inl same) = subst (StandsBehind a) same (h.beats a ha, h.longer a ha)
+      by_place : (a b : Group) → Contains (take place sky) a → (key ≡ b) ⊎ Contains (drop to sky) b → StandsAfter a b
+      by_place a b ha (inl same) = subst (StandsAfter a) same (h.beats a ha, h.longer a ha)
       by_place a b ha (inr later) = across_at sky place h.order a b ha (drop_later sky place to b h.within later)
 
 pub replaced_among : (sky : List Group) (place to : ℕ) (key g : Group) → Contains (replaced sky place to key) g → Contains sky g ⊎ (g ≡ key)

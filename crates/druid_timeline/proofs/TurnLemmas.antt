@@ -274,11 +274,11 @@ level_unless true false not = absurd (not (λ same. false≢true (sym same)))
 level_unless false true not = absurd (not (λ same. false≢true same))
 
 -- two answers to one question
-pub told_alike : (was is : Bool) (P : Type 0) → (IsTrue was ↔ P) → (IsTrue is ↔ P) → was ≡ is
-told_alike true true P one other = refl
-told_alike false false P one other = refl
-told_alike true false P one other = absurd (false≢true (other.1 (one.0 refl)))
-told_alike false true P one other = absurd (false≢true (one.1 (other.0 refl)))
+pub reported_alike : (was is : Bool) (P : Type 0) → (IsTrue was ↔ P) → (IsTrue is ↔ P) → was ≡ is
+reported_alike true true P one other = refl
+reported_alike false false P one other = refl
+reported_alike true false P one other = absurd (false≢true (other.1 (one.0 refl)))
+reported_alike false true P one other = absurd (false≢true (one.1 (other.0 refl)))
 
 -- what is complete before an edit and after it, by the flag
 pub level_claim : (old new : Type 0) (is : Bool) → (IsTrue is ↔ new) → (old ↔ new) → IsTrue is ↔ old

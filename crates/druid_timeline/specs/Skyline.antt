@@ -16,13 +16,13 @@ abbrev pub EndLater : List Group → ℕ → Type 0
 EndLater chunks t = (g : Group) → Contains chunks g → t < g.interval.end
 
 -- b outranks a, and does not end later
-abbrev pub StandsBehind : Group → Group → Type 0
-StandsBehind a b = Outranks b a × (b.interval.end ≤ a.interval.end)
+abbrev pub StandsAfter : Group → Group → Type 0
+StandsAfter a b = Outranks b a × (b.interval.end ≤ a.interval.end)
 
 -- towards the back the rank rises and the end falls
 abbrev pub IsSkyline : List Group → Type 0
 IsSkyline [] = Unit {0}
-IsSkyline (a ∷ more) = ((b : Group) → Contains more b → StandsBehind a b) × IsSkyline more
+IsSkyline (a ∷ more) = ((b : Group) → Contains more b → StandsAfter a b) × IsSkyline more
 
 -- one of the chunks is as good as g, and does not end sooner
 abbrev pub IsCovered : List Group → Group → Type 0

@@ -5,7 +5,7 @@ ghost use Rattle.druid_segment_id.specs.Group.{Group};
 ghost use Rattle.druid_timeline.specs.Holding.{held_of, HoldsNothing, HasComplete, IsHeld, IsServed, AddsHeld, RemovesHeld, RemovesOneHeld, SameHeld};
 
 use crate::Timeline;
-use crate::whole::runs_of;
+use crate::visible_pieces::runs_of;
 use druid_segment_descriptor::{Descriptor, NodeNo};
 use druid_segment_id::{Meter, Name, SegmentId};
 use druid_timeline_chunks::Chunks;

@@ -16,7 +16,7 @@ mod timeline;
 mod transaction;
 mod turn;
 mod undo;
-mod whole;
+mod visible_pieces;
 
 pub use fault::TimelineFault;
 pub use holding::Holding;

@@ -14,13 +14,13 @@ use std::marker::Model;
 // The chunk of each group that edits have touched, as the first of them found it, and room for all chunks that putting
 // them back can make. The room is an empty vector of its own, since no contract tells what `Chunks` has spare.
 #[derive(Debug, Drop)]
-pub(crate) struct Log {
+pub(crate) struct UndoLog {
     saved: Vec<(GroupKey, Option<Chunk>)>,
     touched: HashSet<GroupKey>,
     room: Vec<Chunk>,
 }
 
-impl Model for Log {
+impl Model for UndoLog {
     ghost use Rattle.std.specs.Prelude.{◌≡◌, [], vec_capacity};
     ghost use Rattle.druid_timeline_chunks.specs.Edits.{AreSaved, Logged};
 
@@ -77,12 +77,12 @@ fn make_room(
     room.reserve(chunks.len() + saved.len() + 2)
 }
 
-impl Log {
+impl UndoLog {
     // Nothing is saved.
-    pub(crate) fn new(alloc: Global) -> Log
+    pub(crate) fn new(alloc: Global) -> UndoLog
         ensures { result.saved ≡ [] }
     {
-        Log {
+        UndoLog {
             saved: Vec::new(alloc),
             touched: HashSet::new(alloc),
             room: Vec::new(alloc),

@@ -6,12 +6,12 @@ ghost use Rattle.druid_timeline_chunks.specs.Chunks.{HasNoChunk};
 ghost use Rattle.druid_timeline_chunks.specs.Places.{chunk_place, place_of};
 
 use crate::Chunk;
-use crate::place::Place;
+use crate::place::ChunkPlace;
 use druid_segment_id::Version;
 use druid_time::Interval;
 
 // The index of the first chunk that does not stand before a place; the number of chunks where all do.
-pub(crate) fn first_from(items: &[Chunk], place: &Place) -> usize
+pub(crate) fn first_from(items: &[Chunk], place: &ChunkPlace) -> usize
     requires { IsNonDecreasingBy chunk_place items.now }
     ensures within { result ≤ length items.now }
     ensures before { AllWithin (λ chunk. chunk_place chunk < place.now) items.now 0 result }
@@ -20,7 +20,7 @@ pub(crate) fn first_from(items: &[Chunk], place: &Place) -> usize
     items.partition_point(
         |chunk: &Chunk| -> bool
             ensures { result ≡ nat_lt (chunk_place chunk.now) place.entry.now }
-        { Place::of(chunk.key().interval()).is_before(place) },
+        { ChunkPlace::of(chunk.key().interval()).is_before(place) },
     )
 }
 
@@ -35,7 +35,7 @@ pub(crate) fn seek(items: &[Chunk], interval: Interval, version: &Version) -> Re
     ensures after { IfErr result (λ i. AllWithin (λ chunk. place_of interval ≤ chunk_place chunk)
         items.now i (length items.now)) }
 {
-    let first = first_from(items, &Place::of(interval));
+    let first = first_from(items, &ChunkPlace::of(interval));
     for i in first..items.len() {
         let key = items[i].key();
         if key.interval() != interval {

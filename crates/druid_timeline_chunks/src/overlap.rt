@@ -9,7 +9,7 @@ ghost use Rattle.druid_timeline_chunks.specs.Places.{AreInOrder};
 
 use crate::Chunk;
 use crate::order::first_from;
-use crate::place::{Place, class_of, since_first};
+use crate::place::{ChunkPlace, class_of, since_first};
 use druid_segment_id::{GroupKey, SegmentId};
 use druid_time::Interval;
 use std::alloc::{AllocError, Global};
@@ -40,9 +40,9 @@ fn near(items: &[Chunk], from: usize, own: Interval) -> (usize, usize, usize)
     ensures late { AllWithin (λ chunk. Share own chunk.0.interval → ⊥) items.now result.1 result.2 }
 {
     let class = class_of(items[from].key().interval());
-    let early = first_from(items, &Place::from(class, first_start(own, class)));
-    let late = first_from(items, &Place::from(class, since_first(own.end())));
-    let next = first_from(items, &Place::from(class + 1, 0));
+    let early = first_from(items, &ChunkPlace::from(class, first_start(own, class)));
+    let late = first_from(items, &ChunkPlace::from(class, since_first(own.end())));
+    let next = first_from(items, &ChunkPlace::from(class + 1, 0));
     let low = from.max(early);
     let high = low.max(late);
     (low, high, high.max(next))

@@ -32,13 +32,13 @@ pub(crate) fn class_of(interval: Interval) -> u32
 
 // A contract sees the number of the place.
 #[derive(Drop)]
-pub(crate) struct Place {
+pub(crate) struct ChunkPlace {
     class: u32,
     start: u64,
     end: u64,
 }
 
-impl Model for Place {
+impl Model for ChunkPlace {
     ghost use Rattle.std.specs.Prelude.{ℕ, ◌<◌};
     ghost use Rattle.druid_time.specs.Instant.{instant_count};
     ghost use Rattle.druid_timeline_chunks.specs.Places.{place_below};
@@ -50,13 +50,13 @@ impl Model for Place {
     ghost invariant = { λ a. (a.start < instant_count) × (a.end < instant_count) };
 }
 
-impl Place {
+impl ChunkPlace {
     // The place of an interval.
-    pub(crate) fn of(interval: Interval) -> Place
+    pub(crate) fn of(interval: Interval) -> ChunkPlace
         ensures value { result ≡ place_of interval }
         ensures valid { IsExtent interval }
     {
-        Place {
+        ChunkPlace {
             class: class_of(interval),
             start: since_first(interval.start()),
             end: since_first(interval.end()),
@@ -64,11 +64,11 @@ impl Place {
     }
 
     // The place from which the intervals of that class stand that start then or later.
-    pub(crate) fn from(class: u32, start: u64) -> Place
+    pub(crate) fn from(class: u32, start: u64) -> ChunkPlace
         requires { start < instant_count }
         ensures { result ≡ place_below instant_count class start 0 }
     {
-        Place {
+        ChunkPlace {
             class,
             start,
             end: 0,
@@ -76,7 +76,7 @@ impl Place {
     }
 
     // Whether it comes before another.
-    pub(crate) fn is_before(&self, other: &Place) -> bool
+    pub(crate) fn is_before(&self, other: &ChunkPlace) -> bool
         ensures { IsTrue result ↔ (self.now < other.now) }
     {
         if self.class != other.class {

@@ -6,7 +6,7 @@ ghost use Rattle.druid_timeline_chunks.specs.Chunks.{AreChunks, members_at};
 ghost use Rattle.druid_timeline_chunks.specs.Edits.{HasRoom, chunks_before};
 
 use crate::Chunks;
-use crate::log::Log;
+use crate::log::UndoLog;
 use druid_segment_descriptor::{Descriptor, NodeNo};
 use druid_segment_id::SegmentId;
 use std::alloc::AllocError;
@@ -20,7 +20,7 @@ use std::marker::Model;
 #[derive(Debug, Drop)]
 pub struct Transaction {
     chunks: Chunks,
-    log: Log,
+    log: UndoLog,
 }
 
 impl Model for Transaction {
@@ -36,7 +36,7 @@ impl Model for Transaction {
 // Adds a segment, after its group's chunk is saved.
 fn add_logged(
     chunks: &mut Chunks,
-    log: &mut Log,
+    log: &mut UndoLog,
     descriptor: &Descriptor,
     node: NodeNo,
 ) -> Result<(), AllocError>
@@ -61,7 +61,7 @@ fn add_logged(
 // Takes a segment from what a node serves, after its group's chunk is saved.
 fn remove_logged(
     chunks: &mut Chunks,
-    log: &mut Log,
+    log: &mut UndoLog,
     id: &SegmentId,
     node: NodeNo,
 ) -> Result<(), AllocError>
@@ -90,7 +90,7 @@ impl Transaction {
         ensures before { (g : Group) → members_at result.before g ≡ members_at chunks g }
         ensures now { result.now ≡ chunks }
     {
-        let log = Log::new(chunks.alloc());
+        let log = UndoLog::new(chunks.alloc());
         Transaction { chunks, log }
     }
 

@@ -1,7 +1,7 @@
 use Rattle.std.proofs.Common.{List, ℕ, subst, ◌∙◌}
 use Rattle.druid_segment_descriptor.specs.declared.change.Ask.TheVariants.{Whole}
 use Rattle.druid_broker_follow.specs.Turns.{IsAsked}
-use Rattle.druid_broker_follow.specs.Paging.{request_at}
+use Rattle.druid_broker_follow.specs.Pages.{request_at}
 use Rattle.druid_broker_follow.proofs.turns.fetch_entry.Goals as goal
 
 pub returns-in-Ok : goal.returns-in-Ok

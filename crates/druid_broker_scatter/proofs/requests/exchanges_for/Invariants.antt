@@ -1,5 +1,5 @@
 use Rattle.std.proofs.Common.{◌≡◌, All, map}
-use Rattle.druid_broker_scatter.specs.Waiting.{Ask}
+use Rattle.druid_broker_scatter.specs.Pending.{Ask}
 use Rattle.druid_broker_scatter.proofs.requests.exchanges_for.Given as goal
 
 abbrev pub invariant-loop-node : goal.invariant-loop-node

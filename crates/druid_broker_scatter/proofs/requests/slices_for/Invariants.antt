@@ -1,6 +1,6 @@
 use Rattle.std.proofs.Common.{◌≡◌, ℕ, take}
 use Rattle.druid_broker_scatter.specs.Slices.{NoneEmpty, slices_of}
-use Rattle.druid_broker_scatter.specs.Waiting.{wanted_of}
+use Rattle.druid_broker_scatter.specs.Pending.{wanted_of}
 use Rattle.druid_broker_scatter.proofs.requests.slices_for.Given as goal
 
 abbrev pub invariant-loop-piece : goal.invariant-loop-piece

@@ -1,6 +1,6 @@
 use Rattle.std.proofs.Common.{length, sym, subst, arith, rules}
 use Rattle.druid_base.proofs.ClauseLemmas.{always_err}
-use Rattle.druid_broker_scatter.specs.Waiting.{State, AreBelow}
+use Rattle.druid_broker_scatter.specs.Pending.{State, AreBelow}
 use Rattle.druid_broker_scatter.proofs.GatherLemmas.{below, leading_none, leading_more, leading_err, leading_made, none_asked, gathered_all}
 use Rattle.druid_broker_scatter.proofs.scatter.gather.Goals as goal
 

@@ -1,6 +1,6 @@
 use Rattle.std.proofs.Common.{length}
 use Rattle.druid_partial.specs.Partials.{IsPartialFor}
-use Rattle.druid_broker_scatter.specs.Waiting.{AreBelow}
+use Rattle.druid_broker_scatter.specs.Pending.{AreBelow}
 use Rattle.druid_broker_scatter.proofs.GatherLemmas.{Leading}
 use Rattle.druid_broker_scatter.proofs.scatter.gather.Given as goal
 

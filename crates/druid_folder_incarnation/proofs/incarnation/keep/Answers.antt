@@ -1,7 +1,7 @@
 use Rattle.std.proofs.Common.{inl, ◌∙◌, ap}
 use Rattle.druid_folder.specs.Folder.{Content, renamed, Torn, DoneOrNot}
 use Rattle.druid_folder_incarnation.specs.Incarnation.{number_file, next_file}
-use Rattle.druid_folder_incarnation.specs.Keeping.{IsKeptOr}
+use Rattle.druid_folder_incarnation.specs.KeptFile.{IsKeptOr}
 use Rattle.druid_folder_incarnation.proofs.Answered.{then_also}
 use Rattle.druid_folder_incarnation.proofs.Moments.{leaves_both}
 use Rattle.druid_folder_incarnation.proofs.NumberFile.{same_or_text, kept_or_text}

@@ -1,6 +1,6 @@
 use Rattle.std.proofs.Common.{inl, refl, ◌∙◌, ap}
 use Rattle.druid_folder_incarnation.specs.Incarnation.{number_file, number_text, IsKeptOrNext}
-use Rattle.druid_folder_incarnation.specs.Keeping.{IsKeptOr}
+use Rattle.druid_folder_incarnation.specs.KeptFile.{IsKeptOr}
 use Rattle.druid_folder_incarnation.proofs.Moments.{leaves_both}
 use Rattle.druid_folder_incarnation.proofs.NumberFile.{kept_or_next}
 use Rattle.druid_folder_incarnation.proofs.incarnation.next_incarnation.Goals as goal

@@ -1,7 +1,7 @@
 use Rattle.std.proofs.lemmas.Result.{on_ok_weaker}
 use Rattle.std.proofs.Common.{◌∙◌}
 use Rattle.druid_inventory.specs.Timelines.{ServesWith}
-use Rattle.druid_inventory.proofs.ChangingLemmas.{AreTimelines-same}
+use Rattle.druid_inventory.proofs.ChangeOfTimelineLemmas.{AreTimelines-same}
 use Rattle.druid_inventory.proofs.timelines.change_set.Goals as goal
 
 pub drop_others-requires-clause-over : goal.drop_others-requires-clause-over

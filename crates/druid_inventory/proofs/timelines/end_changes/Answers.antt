@@ -1,7 +1,7 @@
 use Rattle.std.proofs.Common.{refl, subst}
 use Rattle.std.specs.Option.{IsSome}
 use Rattle.std.proofs.lemmas.Bool.{false≢true}
-use Rattle.druid_inventory.proofs.ChangingLemmas.{GoOver-start, GoOver-next, GoOver-end}
+use Rattle.druid_inventory.proofs.ChangeOfTimelineLemmas.{GoOver-start, GoOver-next, GoOver-end}
 use Rattle.druid_inventory.proofs.TransactionLemmas.{no_entries}
 use Rattle.druid_inventory.proofs.timelines.end_changes.Goals as goal
 

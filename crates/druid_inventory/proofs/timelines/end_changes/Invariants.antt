@@ -1,5 +1,5 @@
 use Rattle.std.specs.BTreeMap.{btree_map_len}
-use Rattle.druid_inventory.proofs.ChangingLemmas.{GoOver}
+use Rattle.druid_inventory.proofs.ChangeOfTimelineLemmas.{GoOver}
 use Rattle.druid_inventory.proofs.timelines.end_changes.Given as goal
 
 abbrev pub invariant-loop-source : goal.invariant-loop-source

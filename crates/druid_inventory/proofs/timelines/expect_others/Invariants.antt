@@ -1,5 +1,5 @@
 use Rattle.std.proofs.Common.{◌-◌, length}
-use Rattle.druid_inventory.proofs.ChangingLemmas.{SameKept}
+use Rattle.druid_inventory.proofs.ChangeOfTimelineLemmas.{SameKept}
 use Rattle.druid_inventory.proofs.timelines.expect_others.Given as goal
 
 abbrev pub invariant-loop-descriptor : goal.invariant-loop-descriptor

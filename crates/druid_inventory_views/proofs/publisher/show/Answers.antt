@@ -3,7 +3,7 @@ use Rattle.left_right.specs.Sides.{view}
 use Rattle.druid_inventory_views.specs.Places.{known, IsAlike}
 use Rattle.druid_inventory_views.specs.declared.rule.Known.{Known}
 use Rattle.druid_inventory_views.specs.declared.shown.Shown.{Shown}
-use Rattle.druid_inventory_views.proofs.Placing.{State, state_of, shows, names_same, sets, either_way, if_ok_so, if_err_so}
+use Rattle.druid_inventory_views.proofs.PlaceLemmas.{State, state_of, shows, names_same, sets, either_way, if_ok_so, if_err_so}
 use Rattle.druid_inventory_views.proofs.publisher.show.Goals as goal
 use Rattle.druid_inventory_views.proofs.publisher.show.Goals.{in-Ok, in-Err}
 

@@ -1,7 +1,7 @@
 use Rattle.std.proofs.Common.{◌≡◌, ◌∙◌, ℤ, List, Option, None, ap, sym, arith, map, set, get_or, take}
 use Rattle.std.proofs.lemmas.List.{get_or_default}
 use Rattle.druid_query.specs.declared.aggregator.AggregatorKind.TheVariants.{Count}
-use Rattle.druid_partial_scan.specs.declared.cells.Numbers.TheVariants.{One}
+use Rattle.druid_partial_scan.specs.declared.cells.NumberColumn.TheVariants.{One}
 use Rattle.druid_partial.specs.Joined.{joined}
 use Rattle.druid_partial_scan.specs.Cells.{number_from, join_into}
 use Rattle.druid_partial_scan.proofs.IntoLemmas.{into_more, into_all}

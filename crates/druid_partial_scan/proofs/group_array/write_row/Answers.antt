@@ -1,7 +1,7 @@
 use Rattle.std.proofs.Common.{◌∙◌, ap, arith}
 use Rattle.std.proofs.lemmas.List.{get_or_default}
 use Rattle.druid_partial_scan.specs.Cells.{number_from}
-use Rattle.druid_partial_scan.specs.declared.cells.Numbers.TheVariants.{One}
+use Rattle.druid_partial_scan.specs.declared.cells.NumberColumn.TheVariants.{One}
 use Rattle.druid_partial_scan.proofs.FlatLemmas.{written_more}
 use Rattle.druid_partial_scan.proofs.group_array.write_row.Goals as goal
 

@@ -10,4 +10,4 @@ pub returns-clause-result : goal.returns-clause-result
 returns-clause-result c =
     let query = c.args.query.now in
     let rows = ap (flat_map (counted_by query c.args.slice.now.0.now)) c.deref.ensures.value in
-    IfOk-weaker c.partial_over.result _ _ (λ partial result. subst (λ (told : List Group). IsResult (kinds_of query) told partial.groups) rows result) c.partial_over.ensures.result
+    IfOk-weaker c.partial_over.result _ _ (λ partial result. subst (λ (reported : List Group). IsResult (kinds_of query) reported partial.groups) rows result) c.partial_over.ensures.result

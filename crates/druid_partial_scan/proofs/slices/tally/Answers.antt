@@ -4,7 +4,7 @@ use Rattle.std.proofs.lemmas.List.{length-replicate}
 use Rattle.druid_partial.specs.Groups.{Key}
 use Rattle.druid_partial_scan.specs.Cells.{Cells}
 use Rattle.druid_partial_scan.specs.Slices.{group_of, groups_held, texts_in}
-use Rattle.druid_partial_scan.specs.Told.{told_by}
+use Rattle.druid_partial_scan.specs.SliceGroups.{slice_groups}
 use Rattle.druid_partial_scan.proofs.FlatLemmas.{no_cells_map}
 use Rattle.druid_partial_scan.proofs.SliceLemmas.{added_all}
 use Rattle.druid_partial_scan.proofs.slices.tally.Goals as goal
@@ -18,6 +18,6 @@ add_slices-requires-clause-room c = record {
 pub returns-then-done : goal.returns-then-done
 returns-then-done c =
     let query = c.args.query.now in
-    let rows = flat_map (told_by query) c.args.slices.now in
+    let rows = flat_map (slice_groups query) c.args.slices.now in
     added_all query (texts_in c.args.lists.now) rows c.args.room _ c.add_slices.new.cells
     (ap (λ (v : Cells Key). groups_held v.groups) c.in_ok-cells.ensures ∙ no_cells_map group_of c.args.room) (c.in_ok-done.ensures.room c.if-done.true) (c.in_ok-done.ensures.adds c.if-done.true)

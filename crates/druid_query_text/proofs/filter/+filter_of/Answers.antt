@@ -4,7 +4,7 @@ use Rattle.serde_json.specs.View.{view, items_view}
 use Rattle.druid_filter.specs.Filters.{says, all_of, any_of, is_not}
 use Rattle.druid_query.specs.Filters.{each_filter}
 use Rattle.druid_query_text.specs.Levels.{all, any, negation}
-use Rattle.druid_query_text.specs.declared.filter.Level.TheVariants as levels
+use Rattle.druid_query_text.specs.declared.filter.FilterLevel.TheVariants as levels
 use Rattle.druid_query_text.proofs.FilterLemmas.{within, item_depth, reported, joined_more, joined_last, joined}
 use Rattle.druid_query_text.proofs.InsideLemmas.{no_level, among_reads, all_reads, any_reads, negation_reads, item_reads}
 use Rattle.druid_query_text.proofs.RoomLemmas.{spoken, selected, wanted, says_all, says_any, says_not}

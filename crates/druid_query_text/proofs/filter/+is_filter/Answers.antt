@@ -8,7 +8,7 @@ use Rattle.druid_query.specs.Filters.{filter_at, each_filter}
 use Rattle.druid_query_text.specs.Levels.{selector, among, all, any, negation}
 use Rattle.druid_base.proofs.EachLemmas.{all_reads}
 use Rattle.druid_query_text.proofs.FilterLemmas.{within, item_depth, judged, none_judged, filters_more, filters_refused, filters_last, map_some, reported}
-use Rattle.druid_query_text.specs.declared.filter.Level.TheVariants as levels
+use Rattle.druid_query_text.specs.declared.filter.FilterLevel.TheVariants as levels
 use Rattle.druid_query_text.proofs.filter.+is_filter.Goals as goal
 
 pub are_filters-is_filter-requires : goal.are_filters-is_filter-requires

@@ -3,7 +3,7 @@ use Rattle.serde_json.specs.Data.{depth, items_depth}
 use Rattle.serde_json.specs.View.{view, items_view}
 use Rattle.druid_query.specs.Filters.{filter_at, each_filter}
 use Rattle.druid_query_text.specs.Levels.{selector, among, all, any, negation, leaf}
-use Rattle.druid_query_text.specs.declared.filter.Level.TheVariants as levels
+use Rattle.druid_query_text.specs.declared.filter.FilterLevel.TheVariants as levels
 use Rattle.druid_query_text.proofs.FilterLemmas.{within, item_depth, reported}
 use Rattle.druid_query_text.proofs.RoomLemmas.{left_by, unspoken, spoken, no_level_left, no_room_left, left_selector, left_among, left_all, left_any, left_not, left_more, left_none, left_last, is_zero, is_some_number}
 use Rattle.druid_query_text.proofs.filter.+room_after.Goals as goal

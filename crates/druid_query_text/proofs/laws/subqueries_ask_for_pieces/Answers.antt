@@ -1,5 +1,5 @@
 use Rattle.druid_query_text.proofs.SubBackLemmas.{sub_query}
-use Rattle.druid_query_text.proofs.SubTellLemmas.{sub_asked}
+use Rattle.druid_query_text.proofs.SubReportLemmas.{sub_asked}
 use Rattle.druid_query_text.proofs.laws.subqueries_ask_for_pieces.Goals as goal
 
 pub returns-clause-query : goal.returns-clause-query

@@ -1,7 +1,7 @@
 use Rattle.std.proofs.Common.{◌<◌, length, string_bytes, ap, arith}
 use Rattle.std.proofs.lemmas.List.{length-map}
 use Rattle.druid_segment_rows.specs.Rows.{Schema}
-use Rattle.druid_segment_file.specs.ColumnSpelling.{no_values, dimension}
+use Rattle.druid_segment_file.specs.ColumnBytes.{no_values, dimension}
 use Rattle.druid_segment_file.proofs.ColumnRoomLemmas.{none_iff, length_coded, part_too_long, part_fits}
 use Rattle.druid_segment_file.proofs.columns_room.room_after_dimensions.Goals as goal
 

@@ -3,7 +3,7 @@ use Rattle.std.specs.List.{flat_map, range_with_len}
 use Rattle.std.proofs.lemmas.List.{length-map, take_all}
 use Rattle.std.proofs.lemmas.List.FromFn.{length-range_with_len}
 use Rattle.druid_segment_rows.specs.Rows.{Schema}
-use Rattle.druid_segment_file.specs.ColumnSpelling.{metric, numbers_of}
+use Rattle.druid_segment_file.specs.ColumnBytes.{metric, numbers_of}
 use Rattle.druid_segment_file.proofs.ColumnRoomLemmas.{none_iff, metric_at, part_too_long, part_fits}
 use Rattle.druid_segment_file.proofs.columns_room.room_after_metrics.Goals as goal
 

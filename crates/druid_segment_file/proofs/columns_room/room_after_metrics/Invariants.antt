@@ -1,6 +1,6 @@
 use Rattle.std.proofs.Common.{◌≡◌, ◌+◌, length, take}
 use Rattle.std.specs.List.{flat_map, range_with_len}
-use Rattle.druid_segment_file.specs.ColumnSpelling.{metric, numbers_of}
+use Rattle.druid_segment_file.specs.ColumnBytes.{metric, numbers_of}
 use Rattle.druid_segment_file.proofs.columns_room.room_after_metrics.Given as goal
 
 abbrev pub invariant-loop-place : goal.invariant-loop-place

@@ -1,7 +1,7 @@
 use Rattle.std.proofs.Common.{◌+◌, ◌*◌, length, arith}
 use Rattle.std.specs.List.{flat_map, range_with_len}
 use Rattle.druid_segment_rows.specs.Segment.{max_text, head_length}
-use Rattle.druid_segment_file.specs.ColumnSpelling.{dimension, metric, numbers_of, column_spelling}
+use Rattle.druid_segment_file.specs.ColumnBytes.{dimension, metric, numbers_of, column_spelling}
 use Rattle.druid_segment_file.proofs.ColumnRoomLemmas.{none_iff, some_iff_moved, length_column_spelling}
 use Rattle.druid_segment_file.proofs.columns_room.room_left.Goals as goal
 

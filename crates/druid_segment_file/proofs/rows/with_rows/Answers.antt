@@ -2,7 +2,7 @@ use Rattle.std.proofs.Common.{◌≡◌, ◌-◌, ◌+◌, ◌++◌, ◌∙◌, 
 use Rattle.druid_segment_rows.specs.Rows.{Row, row_of}
 use Rattle.druid_segment_rows.specs.Segment.{Segment, IsSegment, segment_of, with_row}
 use Rattle.druid_segment_file.specs.Parts.{each_at, values_at}
-use Rattle.druid_segment_file.specs.Building.{HasRoom, with_read}
+use Rattle.druid_segment_file.specs.Builder.{HasRoom, with_read}
 use Rattle.druid_segment_file.specs.Borrowed.{values_borrowed}
 use Rattle.druid_segment_file.proofs.LoopLemmas.{goes_on, ends, is_done, is_read}
 use Rattle.druid_segment_file.proofs.BuildLemmas.{room_for_row, borrowed_row}

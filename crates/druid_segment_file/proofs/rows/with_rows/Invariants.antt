@@ -1,6 +1,6 @@
 use Rattle.std.proofs.Common.{◌≡◌, ◌-◌, length}
 use Rattle.druid_segment_file.specs.Parts.{each_at, values_at}
-use Rattle.druid_segment_file.specs.Building.{HasRoom, with_read}
+use Rattle.druid_segment_file.specs.Builder.{HasRoom, with_read}
 use Rattle.druid_segment_file.proofs.PartLemmas.{IsBytes}
 use Rattle.druid_segment_file.proofs.rows.with_rows.Given as goal
 

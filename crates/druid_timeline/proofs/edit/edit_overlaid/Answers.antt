@@ -4,7 +4,7 @@ use Rattle.druid_segment_id.specs.Group.{Group}
 use Rattle.druid_time.specs.Extent.{Extent, Has}
 use Rattle.druid_timeline.specs.Edited.{AreRunsEdited, IsOverlaid, spliced}
 use Rattle.druid_timeline.specs.Pieces.{Shows, shown_at}
-use Rattle.druid_timeline.proofs.HalvingLemmas.{places_ordered}
+use Rattle.druid_timeline.proofs.HalfLemmas.{places_ordered}
 use Rattle.druid_timeline.proofs.SpliceLemmas.{AreRunsEdited-spliced, middle_made}
 use Rattle.druid_timeline.proofs.SweepLemmas.{Run}
 use Rattle.druid_timeline.proofs.edit.edit_overlaid.Goals as goal

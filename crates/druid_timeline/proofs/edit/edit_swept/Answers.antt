@@ -4,7 +4,7 @@ use Rattle.druid_segment_id.specs.Group.{Group}
 use Rattle.druid_timeline.specs.Candidates.{IsBestOf}
 use Rattle.druid_timeline.specs.Pieces.{Shows, shown_at}
 use Rattle.druid_timeline.proofs.SkylineLemmas.{borrowed}
-use Rattle.druid_timeline.proofs.HalvingLemmas.{places_ordered}
+use Rattle.druid_timeline.proofs.HalfLemmas.{places_ordered}
 use Rattle.druid_timeline.proofs.SpliceLemmas.{AreRunsEdited-spliced, middle_made}
 use Rattle.druid_timeline.proofs.SweepLemmas.{Run}
 use Rattle.druid_timeline.proofs.edit.edit_swept.Goals as goal

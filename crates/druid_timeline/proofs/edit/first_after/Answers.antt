@@ -1,7 +1,7 @@
 use Rattle.std.proofs.Common.{rules, nat_cmp}
 use Rattle.std.specs.Ordering.{is_le}
 use Rattle.std.proofs.lemmas.List.Sorted.{IsPartitionPoint-from_clause}
-use Rattle.druid_timeline.proofs.HalvingLemmas.{parted_le, starts_rise, taken_le, left_le}
+use Rattle.druid_timeline.proofs.HalfLemmas.{parted_le, starts_rise, taken_le, left_le}
 use Rattle.druid_timeline.proofs.SweepLemmas.{Run}
 use Rattle.druid_timeline.proofs.edit.first_after.Goals as goal
 

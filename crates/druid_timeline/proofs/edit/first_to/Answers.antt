@@ -1,6 +1,6 @@
 use Rattle.std.proofs.Common.{rules, nat_lt}
 use Rattle.std.proofs.lemmas.List.Sorted.{IsPartitionPoint-from_clause, IsPartitionedBy-ltb}
-use Rattle.druid_timeline.proofs.HalvingLemmas.{ends_rise, taken_lt, left_lt}
+use Rattle.druid_timeline.proofs.HalfLemmas.{ends_rise, taken_lt, left_lt}
 use Rattle.druid_timeline.proofs.SweepLemmas.{Run}
 use Rattle.druid_timeline.proofs.edit.first_to.Goals as goal
 

@@ -4,7 +4,7 @@ use Rattle.druid_timeline_chunks.specs.Chunks.{members_at}
 use Rattle.druid_time.specs.Extent.{common}
 use Rattle.druid_segment_id.specs.Group.{Group}
 use Rattle.druid_timeline.specs.Pieces.{AreRuns, ArePartitions, Reported, shown_at, shown_of}
-use Rattle.druid_timeline.proofs.HalvingLemmas.{at_place}
+use Rattle.druid_timeline.proofs.HalfLemmas.{at_place}
 use Rattle.druid_timeline.proofs.LookupLemmas.{cut_runs, cut_before, cut_past, piece_pushed, pieces_done, all_pushed, later_within}
 use Rattle.druid_timeline.proofs.SpliceLemmas.{runs_drop}
 use Rattle.druid_timeline.proofs.SweepLemmas.{Run, drop_next}

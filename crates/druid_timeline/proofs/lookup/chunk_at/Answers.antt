@@ -1,6 +1,6 @@
 use Rattle.std.proofs.Common.{sym, ◌∙◌}
 use Rattle.std.proofs.lemmas.Bool.{false≢true}
-use Rattle.druid_timeline.proofs.HalvingLemmas.{at_place, shown_beyond, shown_nowhere}
+use Rattle.druid_timeline.proofs.HalfLemmas.{at_place, shown_beyond, shown_nowhere}
 use Rattle.druid_timeline.proofs.SpliceLemmas.{member-Shows}
 use Rattle.druid_timeline.proofs.lookup.chunk_at.Goals as goal
 use Rattle.druid_timeline.proofs.lookup.chunk_at.Goals.{then-place-runs+else-contains, else-place-runs}

@@ -6,7 +6,7 @@ use Rattle.druid_segment_id.specs.Group.{Group}
 use Rattle.druid_timeline.specs.Edited.{IsOverlaid}
 use Rattle.druid_timeline.specs.Pieces.{Shows, shown_at}
 use Rattle.druid_timeline.specs.Stretches.{EndBy}
-use Rattle.druid_timeline.proofs.HalvingLemmas.{places_ordered}
+use Rattle.druid_timeline.proofs.HalfLemmas.{places_ordered}
 use Rattle.druid_timeline.proofs.LookupLemmas.{cut_before}
 use Rattle.druid_timeline.proofs.OverlayLemmas.{IsPassed-start, IsPassed-skip, IsPassed-next, swept_gap, swept_run, swept_last, count_skip, count_next}
 use Rattle.druid_timeline.proofs.SweepLemmas.{Run, IsSwept-start, IsSwept-beyond, IsSwept-end}

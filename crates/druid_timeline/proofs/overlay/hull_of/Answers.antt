@@ -1,7 +1,7 @@
 use Rattle.std.proofs.Common.{◌≡◌, ◌<◌, ℕ, length, take, drop, None, sym, ◌∙◌, subst, arith, rules}
 use Rattle.std.specs.List.{Contains}
 use Rattle.druid_time.specs.Extent.{Extent, Has, common}
-use Rattle.druid_timeline.proofs.HalvingLemmas.{places_ordered}
+use Rattle.druid_timeline.proofs.HalfLemmas.{places_ordered}
 use Rattle.druid_timeline.proofs.OverlayLemmas.{HullCovers-next, HullCovers-skip, HullCovers-end, common_none, both_inside}
 use Rattle.druid_timeline.proofs.SweepLemmas.{Run}
 use Rattle.druid_timeline.proofs.overlay.hull_of.Goals as goal

@@ -10,7 +10,7 @@ use Rattle.druid_timeline.specs.Holding.{IsCompleteIn}
 use Rattle.druid_timeline.specs.Pieces.{cut, shown_at}
 use Rattle.druid_timeline.proofs.ChunkLemmas.{IsCompleteIn-at}
 use Rattle.druid_timeline.proofs.SweepLemmas.{Run}
-use Rattle.druid_timeline.proofs.TurnLemmas.{pieces_level, level_unless, told_alike, then_complete, not_complete}
+use Rattle.druid_timeline.proofs.TurnLemmas.{pieces_level, level_unless, reported_alike, then_complete, not_complete}
 use Rattle.druid_timeline.proofs.turn.prepare_edit.Goals as goal
 
 pub returns-then-not-has_turned-clause-pieces : goal.returns-then-not-has_turned-clause-pieces
@@ -35,7 +35,7 @@ returns-in_err-edit-clause-level c level =
     let at = IsCompleteIn-at c.args.chunks.now c.is_complete-was_complete.ensures.chunks g in
     let was : IsTrue c.is_complete-was_complete.result ↔ IsCompleteIn (held_in c.args.chunks.now) g = (λ e. at.1 (c.is_complete-was_complete.ensures.complete.0 e), λ h. c.is_complete-was_complete.ensures.complete.1 (at.0 h)) in
     let other = c.has_turned.ensures.0 c.if-not-has_turned.false in
-    absurd (other (told_alike c.is_complete-was_complete.result c.args.is_complete (IsCompleteIn (held_in c.args.chunks.now) g) was level))
+    absurd (other (reported_alike c.is_complete-was_complete.result c.args.is_complete (IsCompleteIn (held_in c.args.chunks.now) g) was level))
 
 pub returns-in_err-edit-clause-met : goal.returns-in_err-edit-clause-met
 returns-in_err-edit-clause-met c not =
@@ -59,7 +59,7 @@ returns-clause-level c level =
     let at = IsCompleteIn-at c.args.chunks.now c.is_complete-was_complete.ensures.chunks g in
     let was : IsTrue c.is_complete-was_complete.result ↔ IsCompleteIn (held_in c.args.chunks.now) g = (λ e. at.1 (c.is_complete-was_complete.ensures.complete.0 e), λ h. c.is_complete-was_complete.ensures.complete.1 (at.0 h)) in
     let other = c.has_turned.ensures.0 c.if-not-has_turned.false in
-    absurd (other (told_alike c.is_complete-was_complete.result c.args.is_complete (IsCompleteIn (held_in c.args.chunks.now) g) was level))
+    absurd (other (reported_alike c.is_complete-was_complete.result c.args.is_complete (IsCompleteIn (held_in c.args.chunks.now) g) was level))
 
 pub returns-clause-met : goal.returns-clause-met
 returns-clause-met c not =

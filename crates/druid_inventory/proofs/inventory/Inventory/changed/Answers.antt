@@ -1,7 +1,7 @@
 use Rattle.std.proofs.Common.{map}
 use Rattle.std.specs.Arc.{arc_value}
 use Rattle.druid_inventory.specs.Sources.{Serves}
-use Rattle.druid_inventory.proofs.ChangingLemmas.{AreTimelines-same}
+use Rattle.druid_inventory.proofs.ChangeOfTimelineLemmas.{AreTimelines-same}
 use Rattle.druid_inventory.proofs.inventory.Inventory.changed.Goals as goal
 
 pub of-requires-clause-over : goal.of-requires-clause-over

@@ -1,6 +1,6 @@
 use Rattle.druid_timeline_chunks.proofs.EditLemmas.{if_ok_weaker}
 use Rattle.druid_inventory.specs.Sources.{Serves}
-use Rattle.druid_inventory.proofs.ChangingLemmas.{AreTimelines-same}
+use Rattle.druid_inventory.proofs.ChangeOfTimelineLemmas.{AreTimelines-same}
 use Rattle.druid_inventory.proofs.inventory.Inventory.changing_timelines.Goals as goal
 
 pub returns : goal.returns

@@ -1,6 +1,6 @@
 use Rattle.std.proofs.Common.{ap, ◌∙◌}
 use Rattle.druid_inventory_views.specs.Fold.{PublisherValue}
-use Rattle.druid_inventory_views.proofs.Placing.{ok_or_err}
+use Rattle.druid_inventory_views.proofs.PlaceLemmas.{ok_or_err}
 use Rattle.druid_inventory_views.proofs.publisher.Publisher.add_still.Goals as goal
 
 pub returns-clause-shown : goal.returns-clause-shown

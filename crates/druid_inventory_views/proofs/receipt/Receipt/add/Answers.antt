@@ -1,5 +1,5 @@
 use Rattle.std.proofs.Common.{sym, ◌∙◌, ap}
-use Rattle.druid_inventory_views.proofs.Adding.{adds_moves}
+use Rattle.druid_inventory_views.proofs.AddLemmas.{adds_moves}
 use Rattle.druid_inventory_views.proofs.receipt.Receipt.add.Goals as goal
 
 pub compare_exchange-found-requires : goal.compare_exchange-found-requires

@@ -1,7 +1,7 @@
 use Rattle.std.proofs.Common.{◌≡◌, Ok, sym, ap, ◌∙◌, subst}
 use Rattle.serde_json.specs.View.{view}
 use Rattle.druid_query.specs.Asked.{inside_at}
-use Rattle.druid_query.specs.Refusal.{TellsAfter}
+use Rattle.druid_query.specs.Refusal.{ReportsAfter}
 use Rattle.druid_query.specs.SubQuery.{pieces_at, span_at, before_search, subquery_at}
 use Rattle.druid_query_text.specs.Found.{FindsAfter, Refuses, readings}
 use Rattle.druid_query_text.specs.Parts.{tail_at, span_by}
@@ -20,7 +20,7 @@ returns-in_err-asked c =
     let d = view c.args.value.now in
     let e = c.in_err-asked.field-0.0 in
     error_holds (λ r. FindsAfter (λ sub. sub) (before_search d) r (subquery_at d)) c.from_residual-in_err-asked.result e c.from_residual-in_err-asked.ensures.1
-    (sub_times d c.in_ok-head.head e c.in_ok-head.ensures (subst (λ s. TellsAfter (pieces_at s d) e (span_at s d)) c.source.ensures c.in_err-asked.ensures.read))
+    (sub_times d c.in_ok-head.head e c.in_ok-head.ensures (subst (λ s. ReportsAfter (pieces_at s d) e (span_at s d)) c.source.ensures c.in_err-asked.ensures.read))
 
 pub returns-in_err-tail : goal.returns-in_err-tail
 returns-in_err-tail c =

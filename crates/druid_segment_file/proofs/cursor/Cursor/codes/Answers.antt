@@ -1,6 +1,6 @@
 use Rattle.std.proofs.Common.{◌≡◌, ◌++◌, ◌∷◌, ◌∙◌, [], List, ℕ, Ok, Err, subst}
 use Rattle.druid_segment_file.specs.Parts.{each_at}
-use Rattle.druid_segment_file.specs.ColumnReading.{code_at}
+use Rattle.druid_segment_file.specs.ColumnReader.{code_at}
 use Rattle.druid_segment_file.proofs.LoopLemmas.{goes_on, ends, is_done, not_read}
 use Rattle.druid_segment_file.proofs.cursor.Cursor.codes.Goals as goal
 

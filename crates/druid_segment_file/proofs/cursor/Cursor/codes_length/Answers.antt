@@ -2,8 +2,8 @@ use Rattle.std.proofs.Common.{◌≡◌, ◌++◌, ◌∷◌, ◌∙◌, [], Lis
 use Rattle.std.proofs.lemmas.Result.{err_from_is_err_and}
 use Rattle.druid_segment_rows.proofs.PlaceLemmas.{length_with_mark}
 use Rattle.druid_segment_file.specs.Parts.{each_at}
-use Rattle.druid_segment_file.specs.ColumnReading.{code_at}
-use Rattle.druid_segment_file.specs.Judging.{code_length, AreMarked}
+use Rattle.druid_segment_file.specs.ColumnReader.{code_at}
+use Rattle.druid_segment_file.specs.FileRules.{code_length, AreMarked}
 use Rattle.druid_segment_file.proofs.LoopLemmas.{with_none, goes_on, ends, is_done}
 use Rattle.druid_segment_file.proofs.JudgeLemmas.{code_within, none_marked, marked_push, sum_push}
 use Rattle.druid_segment_file.proofs.cursor.Cursor.codes_length.Goals as goal

@@ -1,8 +1,8 @@
 use Rattle.std.proofs.Common.{◌≡◌, ◌-◌, ◌*◌, ◌≤◌, List, ℕ, map, length}
 use Rattle.std.specs.List.{sum}
 use Rattle.druid_segment_file.specs.Parts.{each_at}
-use Rattle.druid_segment_file.specs.ColumnReading.{code_at}
-use Rattle.druid_segment_file.specs.Judging.{code_length, AreMarked}
+use Rattle.druid_segment_file.specs.ColumnReader.{code_at}
+use Rattle.druid_segment_file.specs.FileRules.{code_length, AreMarked}
 use Rattle.druid_segment_file.proofs.LoopLemmas.{with_front}
 use Rattle.druid_segment_file.proofs.cursor.Cursor.codes_length.Given as goal
 

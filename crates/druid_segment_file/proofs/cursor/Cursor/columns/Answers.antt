@@ -2,7 +2,7 @@ use Rattle.std.proofs.Common.{◌∙◌, length, refl, sym, subst, ap, List, ℕ
 use Rattle.std.proofs.lemmas.List.{length-map}
 use Rattle.druid_segment_rows.specs.Columns.{AreLong}
 use Rattle.druid_segment_file.specs.Parts.{Shape}
-use Rattle.druid_segment_file.specs.ColumnReading.{decoded}
+use Rattle.druid_segment_file.specs.ColumnReader.{decoded}
 use Rattle.druid_segment_file.proofs.KeepLemmas.{times_ok, dimensions_ok, metrics_ok, columns_kept, dimensions_long, metrics_long, texts_long, numbers_long}
 use Rattle.druid_segment_file.proofs.cursor.Cursor.columns.Goals as goal
 

@@ -1,7 +1,7 @@
 use Rattle.std.proofs.Common.{◌≡◌, ◌∙◌, ◌+◌, ◌*◌, Ok, subst, arith}
 use Rattle.druid_segment_file.specs.Parts.{each_at, Shape}
-use Rattle.druid_segment_file.specs.ColumnReading.{dimension_at, metric_at, Columns, columns_at}
-use Rattle.druid_segment_file.specs.Judging.{columns_length}
+use Rattle.druid_segment_file.specs.ColumnReader.{dimension_at, metric_at, Columns, columns_at}
+use Rattle.druid_segment_file.specs.FileRules.{columns_length}
 use Rattle.druid_segment_file.proofs.JudgeLemmas.{columns_found, times_counted}
 use Rattle.druid_segment_file.proofs.cursor.Cursor.columns_length.Goals as goal
 

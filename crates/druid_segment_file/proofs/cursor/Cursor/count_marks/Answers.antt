@@ -1,8 +1,8 @@
 use Rattle.std.proofs.Common.{◌≡◌, ◌++◌, ◌∷◌, ◌∙◌, ◌+◌, ◌≤◌, [], List, Bool, Ok, Err, subst, refl, arith}
 use Rattle.std.proofs.lemmas.Result.{err_from_is_err_and}
 use Rattle.druid_segment_file.specs.Parts.{each_at}
-use Rattle.druid_segment_file.specs.ColumnReading.{mark_at}
-use Rattle.druid_segment_file.specs.Judging.{ones}
+use Rattle.druid_segment_file.specs.ColumnReader.{mark_at}
+use Rattle.druid_segment_file.specs.FileRules.{ones}
 use Rattle.druid_segment_file.proofs.LoopLemmas.{with_none, goes_on, ends, is_done}
 use Rattle.druid_segment_file.proofs.JudgeLemmas.{ones_same, ones_more}
 use Rattle.druid_segment_file.proofs.cursor.Cursor.count_marks.Goals.{then-branch, else-branch}

@@ -1,7 +1,7 @@
 use Rattle.std.proofs.Common.{◌≡◌, ◌-◌, ◌≤◌, List, Bool}
 use Rattle.druid_segment_file.specs.Parts.{each_at}
-use Rattle.druid_segment_file.specs.ColumnReading.{mark_at}
-use Rattle.druid_segment_file.specs.Judging.{ones}
+use Rattle.druid_segment_file.specs.ColumnReader.{mark_at}
+use Rattle.druid_segment_file.specs.FileRules.{ones}
 use Rattle.druid_segment_file.proofs.LoopLemmas.{with_front}
 use Rattle.druid_segment_file.proofs.cursor.Cursor.count_marks.Given as goal
 

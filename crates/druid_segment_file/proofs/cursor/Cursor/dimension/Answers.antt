@@ -1,7 +1,7 @@
 use Rattle.std.proofs.Common.{◌≡◌, ◌∙◌, ap, sym, subst, Ok, IsOk, List, [], ℕ, None}
-use Rattle.druid_segment_file.specs.ColumnSpelling.{Coded}
+use Rattle.druid_segment_file.specs.ColumnBytes.{Coded}
 use Rattle.druid_segment_file.specs.Parts.{each_at}
-use Rattle.druid_segment_file.specs.ColumnReading.{value_texts_at, code_at, dimension_at}
+use Rattle.druid_segment_file.specs.ColumnReader.{value_texts_at, code_at, dimension_at}
 use Rattle.druid_segment_file.proofs.LoopLemmas.{not_read}
 use Rattle.druid_segment_file.proofs.JudgeLemmas.{dimension_uncounted}
 use Rattle.druid_segment_file.proofs.KeepLemmas.{ok_value, ok_from, dimension_parts, codes_are_ok, kept_dictionary, kept_bounded, kept_dimension}

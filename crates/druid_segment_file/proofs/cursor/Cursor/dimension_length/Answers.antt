@@ -1,7 +1,7 @@
 use Rattle.std.proofs.Common.{◌≡◌, ◌∙◌, ap, sym, refl, arith}
 use Rattle.std.proofs.lemmas.List.Elements.{All-replicate}
-use Rattle.druid_segment_file.specs.Judging.{texts_length}
-use Rattle.druid_segment_file.specs.ColumnReading.{coded_at, decoded}
+use Rattle.druid_segment_file.specs.FileRules.{texts_length}
+use Rattle.druid_segment_file.specs.ColumnReader.{coded_at, decoded}
 use Rattle.druid_segment_file.proofs.PartLemmas.{at_most_ok}
 use Rattle.druid_segment_file.proofs.JudgeLemmas.{finds_as, dimension_counted}
 use Rattle.druid_segment_file.proofs.cursor.Cursor.dimension_length.Goals as goal

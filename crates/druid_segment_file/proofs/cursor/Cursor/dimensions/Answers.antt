@@ -1,8 +1,8 @@
 use Rattle.std.proofs.Common.{◌≡◌, ◌++◌, ◌∷◌, ◌∙◌, [], List, Ok, IsOk, subst, sym, ap, map}
 use Rattle.std.proofs.lemmas.List.{map_push}
-use Rattle.druid_segment_file.specs.ColumnSpelling.{Coded}
+use Rattle.druid_segment_file.specs.ColumnBytes.{Coded}
 use Rattle.druid_segment_file.specs.Parts.{each_at}
-use Rattle.druid_segment_file.specs.ColumnReading.{dimension_at, decoded}
+use Rattle.druid_segment_file.specs.ColumnReader.{dimension_at, decoded}
 use Rattle.druid_segment_file.proofs.LoopLemmas.{goes_on, is_done, reads_next}
 use Rattle.druid_segment_file.proofs.cursor.Cursor.dimensions.Goals as goal
 

@@ -1,9 +1,9 @@
 use Rattle.std.proofs.Common.{◌≡◌, ◌++◌, ◌∷◌, ◌∙◌, [], List, Ok, Err, subst, refl, arith}
 use Rattle.std.proofs.lemmas.Result.{err_from_is_err_and}
-use Rattle.druid_segment_file.specs.ColumnSpelling.{Coded}
+use Rattle.druid_segment_file.specs.ColumnBytes.{Coded}
 use Rattle.druid_segment_file.specs.Parts.{each_at}
-use Rattle.druid_segment_file.specs.ColumnReading.{dimension_at, decoded}
-use Rattle.druid_segment_file.specs.Judging.{texts_length}
+use Rattle.druid_segment_file.specs.ColumnReader.{dimension_at, decoded}
+use Rattle.druid_segment_file.specs.FileRules.{texts_length}
 use Rattle.druid_segment_file.proofs.LoopLemmas.{with_none, goes_on, ends, is_done}
 use Rattle.druid_segment_file.proofs.JudgeLemmas.{sum_push}
 use Rattle.druid_segment_file.proofs.cursor.Cursor.dimensions_length.Goals as goal

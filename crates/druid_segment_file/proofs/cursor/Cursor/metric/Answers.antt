@@ -1,8 +1,8 @@
 use Rattle.std.proofs.Common.{◌≡◌, ◌++◌, ◌∷◌, ◌∙◌, [], List, Bool, Ok, Err, subst, sym, ap}
 use Rattle.druid_segment_file.specs.Parts.{each_at}
-use Rattle.druid_segment_file.specs.Reading.{Cursor}
-use Rattle.druid_segment_file.specs.ColumnReading.{mark_at, present_at, metric_at}
-use Rattle.druid_segment_file.specs.Building.{present_value_at}
+use Rattle.druid_segment_file.specs.Reader.{Cursor}
+use Rattle.druid_segment_file.specs.ColumnReader.{mark_at, present_at, metric_at}
+use Rattle.druid_segment_file.specs.Builder.{present_value_at}
 use Rattle.druid_segment_file.proofs.LoopLemmas.{with_front, nothing_before, not_read}
 use Rattle.druid_segment_file.proofs.JudgeLemmas.{metric_unmarked}
 use Rattle.druid_segment_file.proofs.KeepLemmas.{metric_marked, all_marks, next_mark, no_mark, marks_done, next_present, no_present, present_done}

@@ -1,6 +1,6 @@
 use Rattle.std.proofs.Common.{◌≡◌, ◌-◌, List, Bool, ℕ, Ok}
 use Rattle.druid_segment_file.specs.Parts.{each_at}
-use Rattle.druid_segment_file.specs.ColumnReading.{mark_at, present_at, metric_at}
+use Rattle.druid_segment_file.specs.ColumnReader.{mark_at, present_at, metric_at}
 use Rattle.druid_segment_file.proofs.LoopLemmas.{with_front}
 use Rattle.druid_segment_file.proofs.cursor.Cursor.metric.Given as goal
 

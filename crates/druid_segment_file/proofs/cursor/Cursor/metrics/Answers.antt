@@ -1,6 +1,6 @@
 use Rattle.std.proofs.Common.{◌≡◌, ◌++◌, ◌∷◌, ◌∙◌, [], List, ℤ, Option, Ok, IsOk, subst, sym}
 use Rattle.druid_segment_file.specs.Parts.{each_at}
-use Rattle.druid_segment_file.specs.ColumnReading.{metric_at}
+use Rattle.druid_segment_file.specs.ColumnReader.{metric_at}
 use Rattle.druid_segment_file.proofs.LoopLemmas.{goes_on, is_done, reads_next}
 use Rattle.druid_segment_file.proofs.cursor.Cursor.metrics.Goals as goal
 

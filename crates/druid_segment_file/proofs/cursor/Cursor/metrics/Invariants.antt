@@ -1,6 +1,6 @@
 use Rattle.std.proofs.Common.{◌≡◌, ◌-◌}
 use Rattle.druid_segment_file.specs.Parts.{each_at}
-use Rattle.druid_segment_file.specs.ColumnReading.{metric_at}
+use Rattle.druid_segment_file.specs.ColumnReader.{metric_at}
 use Rattle.druid_segment_file.proofs.LoopLemmas.{with_front}
 use Rattle.druid_segment_file.proofs.cursor.Cursor.metrics.Given as goal
 

@@ -1,8 +1,8 @@
 use Rattle.std.proofs.Common.{◌≡◌, ◌++◌, ◌∷◌, ◌∙◌, [], List, ℤ, Option, Ok, Err, subst, refl, arith}
 use Rattle.std.proofs.lemmas.Result.{err_from_is_err_and}
 use Rattle.druid_segment_file.specs.Parts.{each_at}
-use Rattle.druid_segment_file.specs.ColumnReading.{metric_at}
-use Rattle.druid_segment_file.specs.Judging.{numbers_length}
+use Rattle.druid_segment_file.specs.ColumnReader.{metric_at}
+use Rattle.druid_segment_file.specs.FileRules.{numbers_length}
 use Rattle.druid_segment_file.proofs.LoopLemmas.{with_none, goes_on, ends, is_done}
 use Rattle.druid_segment_file.proofs.JudgeLemmas.{sum_push}
 use Rattle.druid_segment_file.proofs.cursor.Cursor.metrics_length.Goals as goal

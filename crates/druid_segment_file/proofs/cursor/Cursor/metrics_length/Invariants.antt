@@ -1,8 +1,8 @@
 use Rattle.std.proofs.Common.{◌≡◌, ◌-◌, ◌*◌, ◌≤◌, List, ℤ, Option, map}
 use Rattle.std.specs.List.{sum}
 use Rattle.druid_segment_file.specs.Parts.{each_at}
-use Rattle.druid_segment_file.specs.ColumnReading.{metric_at}
-use Rattle.druid_segment_file.specs.Judging.{numbers_length}
+use Rattle.druid_segment_file.specs.ColumnReader.{metric_at}
+use Rattle.druid_segment_file.specs.FileRules.{numbers_length}
 use Rattle.druid_segment_file.proofs.LoopLemmas.{with_front}
 use Rattle.druid_segment_file.proofs.cursor.Cursor.metrics_length.Given as goal
 

@@ -1,7 +1,7 @@
 use Rattle.std.proofs.Common.{◌≡◌, ◌≤◌, ◌++◌, ◌∷◌, ◌∙◌, [], Ok, Err, subst, sym, refl, arith, length, None, option_map}
 use Rattle.std.proofs.lemmas.Result.{err_from_is_err_and}
 use Rattle.std.proofs.lemmas.List.{length-set, take_all}
-use Rattle.druid_segment_file.specs.ColumnReading.{value_text_at, value_texts_at}
+use Rattle.druid_segment_file.specs.ColumnReader.{value_text_at, value_texts_at}
 use Rattle.druid_segment_file.specs.Borrowed.{bytes_of}
 use Rattle.druid_segment_file.proofs.LoopLemmas.{no_texts, texts_go_on, texts_end, texts_done}
 use Rattle.druid_segment_file.proofs.JudgeLemmas.{text_within, lens_push}

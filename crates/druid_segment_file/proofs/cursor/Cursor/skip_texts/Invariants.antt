@@ -1,5 +1,5 @@
 use Rattle.std.proofs.Common.{◌≡◌, ◌-◌, List, ℕ, map, take, length, option_map, None}
-use Rattle.druid_segment_file.specs.ColumnReading.{value_texts_at}
+use Rattle.druid_segment_file.specs.ColumnReader.{value_texts_at}
 use Rattle.druid_segment_file.specs.Borrowed.{bytes_of}
 use Rattle.druid_segment_file.proofs.LoopLemmas.{with_front}
 use Rattle.druid_segment_file.proofs.cursor.Cursor.skip_texts.Given as goal

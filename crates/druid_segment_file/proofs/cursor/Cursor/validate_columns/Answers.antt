@@ -1,6 +1,6 @@
 use Rattle.std.proofs.Common.{ap, sym, subst, arith, List, ℕ, length}
 use Rattle.std.proofs.lemmas.Result.{err_from_is_err_and}
-use Rattle.druid_segment_file.specs.Building.{IsWholeByColumns}
+use Rattle.druid_segment_file.specs.Builder.{IsWholeByColumns}
 use Rattle.druid_segment_file.proofs.PartLemmas.{IsBytes}
 use Rattle.druid_segment_file.proofs.BuildLemmas.{head_takes, columns_same, columns_fault, columns_too_long, text_judged}
 use Rattle.druid_segment_file.proofs.cursor.Cursor.validate_columns.Goals as goal

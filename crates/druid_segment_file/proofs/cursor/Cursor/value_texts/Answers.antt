@@ -1,5 +1,5 @@
 use Rattle.std.proofs.Common.{◌≡◌, ◌∙◌, Ok, Err, None, subst, option_map}
-use Rattle.druid_segment_file.specs.ColumnReading.{value_text_at, value_texts_at}
+use Rattle.druid_segment_file.specs.ColumnReader.{value_text_at, value_texts_at}
 use Rattle.druid_segment_file.specs.Borrowed.{bytes_of}
 use Rattle.druid_segment_file.proofs.LoopLemmas.{texts_go_on, texts_end, texts_done, not_read}
 use Rattle.druid_segment_file.proofs.cursor.Cursor.value_texts.Goals as goal

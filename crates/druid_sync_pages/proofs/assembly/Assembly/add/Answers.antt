@@ -1,7 +1,7 @@
 use Rattle.std.proofs.Common.{◌≡◌, Option, Some, Ok, sym, subst, ◌∙◌}
 use Rattle.std.specs.declared.cmp.Ordering.TheVariants.{Equal}
 use Rattle.druid_sync_pages.specs.Assembly.{Parts}
-use Rattle.druid_sync_pages.specs.Fitting.{Compares, FitsAs}
+use Rattle.druid_sync_pages.specs.PageSizes.{Compares, FitsAs}
 use Rattle.druid_sync_pages.specs.declared.parts.Fit.{Fit}
 use Rattle.druid_sync_pages.proofs.TakeLemmas.{tied, lacking_memory, last_memory}
 use Rattle.druid_sync_pages.proofs.assembly.Assembly.add.Goals as goal

@@ -1,5 +1,0 @@
-use Rattle.druid_broker_follow.specs.Paging.{HaveCome, request_at, segments_of}
-use Rattle.druid_broker_follow.proofs.paging.complete.Given as goal
-
-abbrev pub invariant-loop-page : goal.invariant-loop-page
-invariant-loop-page g l = HaveCome g.L.Link.exchanges (request_at l.path) l.at l.of (segments_of l.first) l.page l.assembly l.initial.link l.link

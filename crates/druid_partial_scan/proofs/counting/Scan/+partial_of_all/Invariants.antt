@@ -1,5 +1,0 @@
-use Rattle.std.proofs.Common.{length}
-use Rattle.druid_partial_scan.proofs.counting.Scan.+partial_of_all.Given as goal
-
-abbrev pub decreases-partial_of_all : goal.decreases-partial_of_all
-decreases-partial_of_all l = length l.pieces.now

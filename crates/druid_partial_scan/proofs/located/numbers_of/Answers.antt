@@ -1,9 +1,0 @@
-use Rattle.std.proofs.Common.{arith}
-use Rattle.druid_partial_scan.specs.declared.located.NumberSource.TheVariants as sources
-use Rattle.druid_partial_scan.proofs.SourceLemmas.{numbers_more}
-use Rattle.druid_partial_scan.proofs.located.numbers_of.Goals as goal
-
-pub loop-source-preserved : goal.loop-source-preserved
-loop-source-preserved c =
-    numbers_more c.args.segment.now c.args.sources.now c.loop-source.source-index sources.One c.loop-source.numbers.items c.push.new.self.items c.numbers_from.result
-    (omega arith) c.loop-source.invariant c.numbers_from.ensures c.in_ok-push.ensures.items

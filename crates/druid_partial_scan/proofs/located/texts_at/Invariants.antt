@@ -1,8 +1,0 @@
-use Rattle.std.proofs.Common.{◌≡◌, take, map}
-use Rattle.druid_segment_rows.specs.Segment.{row_at}
-use Rattle.druid_segment_rows.specs.Rows.{nullable_texts_of}
-use Rattle.druid_partial_scan.specs.Places.{at_place}
-use Rattle.druid_partial_scan.proofs.located.texts_at.Given as goal
-
-abbrev pub invariant-loop-place : goal.invariant-loop-place
-invariant-loop-place l = nullable_texts_of l.texts.items ≡ map (at_place (row_at l.segment l.row).dimensions) (take l.place-index l.places)

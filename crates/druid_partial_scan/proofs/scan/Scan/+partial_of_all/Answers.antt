@@ -1,0 +1,10 @@
+use Rattle.druid_partial_scan.specs.Rows.{counted_by}
+use Rattle.druid_partial.proofs.MovedLemmas.{halves_result}
+use Rattle.druid_partial_scan.proofs.scan.Scan.+partial_of_all.Goals as goal
+
+pub returns-in-Ok-clause-result : goal.returns-in-Ok-clause-result
+returns-in-Ok-clause-result t c =
+    let scan = c.args.self.now in
+    halves_result scan.query (counted_by scan.query scan.segment) c.args.pieces.now c.split_at.result.0.now c.split_at.result.1.now _
+    c.in_ok-left.left c.in_ok-right.right c.in-Ok.both c.split_at.ensures.front c.split_at.ensures.back
+    c.in_ok-left.ensures.result c.in_ok-left.ensures.of_query c.in_ok-right.ensures.result c.in-Ok.ensures.groups

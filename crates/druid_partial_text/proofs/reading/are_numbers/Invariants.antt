@@ -1,5 +1,0 @@
-use Rattle.druid_partial_text.proofs.RowLemmas.{EachNumber}
-use Rattle.druid_partial_text.proofs.reading.are_numbers.Given as goal
-
-abbrev pub invariant-loop-i : goal.invariant-loop-i
-invariant-loop-i l = EachNumber l.aggregations l.values l.i

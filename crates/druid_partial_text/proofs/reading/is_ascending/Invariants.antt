@@ -1,6 +1,0 @@
-use Rattle.std.specs.List.{AllAdjacentBelow}
-use Rattle.druid_partial_text.specs.Borrowed.{IsBefore}
-use Rattle.druid_partial_text.proofs.reading.is_ascending.Given as goal
-
-abbrev pub invariant-loop-i : goal.invariant-loop-i
-invariant-loop-i l = AllAdjacentBelow IsBefore l.groups l.i

@@ -1,5 +1,0 @@
-use Rattle.druid_partial_text.proofs.SpeltLemmas.{AreCounted}
-use Rattle.druid_partial_text.proofs.spelt.are_counted.Given as goal
-
-abbrev pub invariant-loop-i : goal.invariant-loop-i
-invariant-loop-i l = AreCounted l.aggregations l.numbers l.i

@@ -1,9 +1,0 @@
-use Rattle.std.proofs.Common.{◌≡◌, ◌++◌, take}
-use Rattle.std.specs.List.{flat_map}
-use Rattle.druid_segment_rows.specs.Segment.{row_at}
-use Rattle.druid_segment_file.specs.Spelling.{number_value}
-use Rattle.druid_segment_file.proofs.spelling.append_metrics.Given as goal
-
-abbrev pub invariant-loop-metric : goal.invariant-loop-metric
-invariant-loop-metric l =
-    l.out.items ≡ l.fn.out.items ++ flat_map number_value (take l.metric (row_at l.segment l.place).metrics)

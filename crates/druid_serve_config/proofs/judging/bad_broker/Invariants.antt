@@ -1,8 +1,0 @@
-use Rattle.std.proofs.Common.{◌≡◌, drop, is_some}
-use Rattle.std.specs.List.{list_all}
-use Rattle.serde_json.specs.View.{view}
-use Rattle.druid_serve_config.specs.Configs.{broker_at}
-use Rattle.druid_serve_config.proofs.judging.bad_broker.Given as goal
-
-abbrev pub invariant-loop-place : goal.invariant-loop-place
-invariant-loop-place l = list_all (λ value. is_some (broker_at l.network (view value))) (drop l.place l.values) ≡ list_all (λ value. is_some (broker_at l.network (view value))) l.values
